@@ -1,0 +1,103 @@
+-- The chart: every starred row of document 01, one table about the machine, computed.
+use mathlib.Core.Path.{_≡_, refl}
+use mathlib.Core.List.{List, [], _∷_, _++_}
+use Prim.Native.Nat.{ℕ}
+use lib.ListN.{replicate, getD}
+use Rattle.machine.specs.Plant.{crossing, fresh-plant, dependent, reason, booms-up, booms-down, booms-closed, normal, secured}
+use Rattle.machine.specs.Range.{entry-in, entry-zero, track-in, phase-in, crossing-in, crossing-zero, place-in, in-range}
+use Rattle.machine.specs.declared.Event.{Event}
+use Rattle.machine.specs.Events.{place-limit, value-limit, refusal, number}
+use Rattle.machine.specs.Effects.{calling-after, waiting-after, cancels, act, phase-ticked, timer-ticked, tick, written-at}
+use Rattle.machine.specs.Settling.{phase-settled, timer-settled, out-settled, settle}
+use Rattle.machine.specs.Step.{touch, apply, written, step, after, carried}
+use Rattle.machine.specs.Panel.{road, signal, distant, rhythm, lit, bell, boom-lamps, right-down, left-down, released, releases-shown, status, holds, row, panel}
+use Rattle.machine.specs.SiteBook.{book-entry, book-site, read-number, read}
+
+abbrev ev : ℕ → ℕ → ℕ → Event
+ev code place value = record { code = code; crossing = 0; place = place; value = value }
+
+abbrev a-tick : Event
+a-tick = ev 0 0 0
+
+abbrev strike-in : Event
+strike-in = ev 1 0 0
+
+abbrev passage : Event
+passage = ev 2 0 0
+
+-- a book of one crossing with one track, F 2
+abbrev site : ℕ → ℕ → List ℕ
+site kind mask = 1 ∷ kind ∷ 1 ∷ mask ∷ 2 ∷ 0 ∷ 0 ∷ 0 ∷ []
+
+-- the panel after a list of events from fresh
+abbrev shown : List ℕ → List Event → List ℕ
+shown book es = panel (after (read book .plant) es)
+
+-- bytes 10 and 6: phase and train signal
+abbrev phase-signal : List ℕ → List Event → List ℕ
+phase-signal book es = getD (shown book es) 10 0 ∷ getD (shown book es) 6 0 ∷ []
+
+-- both booms report a value
+abbrev reports : ℕ → ℕ → List Event
+reports a b = ev 8 0 a ∷ ev 8 1 b ∷ []
+
+-- a strike-in, then two ticks: phase 3
+abbrev closing : List Event
+closing = strike-in ∷ a-tick ∷ a-tick ∷ []
+
+-- the program's case
+abbrev closed : List Event
+closed = closing ++ reports 2 2
+
+-- bytes 14, 12 and 10: waiting, calling and phase
+abbrev queue-phase : List ℕ → List Event → List ℕ
+queue-phase book es = getD (shown book es) 14 0 ∷ getD (shown book es) 12 0 ∷ getD (shown book es) 10 0 ∷ []
+
+-- kind 1 after a strike-in, a release and n ticks: written off, then phase
+abbrev release : ℕ → List ℕ
+release n =
+    let es = strike-in ∷ ev 7 0 0 ∷ replicate n a-tick in
+    carried (read (site 1 0) .plant) es ∷ getD (shown (site 1 0) es) 10 0 ∷ []
+
+pub record Chart : Type 0 where
+  pub fresh : shown (site 3 0) [] ≡ 1 ∷ 13 ∷ 0 ∷ 0 ∷ 0 ∷ 0 ∷ 1 ∷ 1 ∷ 0 ∷ 1 ∷ 0 ∷ 0 ∷ 0 ∷ 0 ∷ 0 ∷ 0 ∷ []
+  pub program : shown (site 3 0) closed ≡ 2 ∷ 15 ∷ 0 ∷ 1 ∷ 1 ∷ 0 ∷ 2 ∷ 2 ∷ 0 ∷ 2 ∷ 3 ∷ 0 ∷ 1 ∷ 0 ∷ 0 ∷ 0 ∷ []
+  pub one-tick-fewer : phase-signal (site 3 0) (strike-in ∷ a-tick ∷ reports 2 2) ≡ 1 ∷ 1 ∷ []
+  pub gone-in-warning : getD (shown (site 3 0) (strike-in ∷ passage ∷ [])) 10 0 ≡ 0
+  pub raising : phase-signal (site 3 0) (closed ++ passage ∷ []) ≡ 4 ∷ 1 ∷ []
+  pub opened : getD (shown (site 3 0) (closed ++ passage ∷ reports 0 0)) 10 0 ≡ 0
+  pub again : getD (shown (site 3 0) (closed ++ passage ∷ strike-in ∷ reports 0 0)) 10 0 ≡ 1
+  pub again-timer : crossing (after (read (site 3 0) .plant) (closed ++ passage ∷ strike-in ∷ reports 0 0)) 0 .timer ≡ 2
+  pub waits : queue-phase (site 3 1) (strike-in ∷ []) ≡ 1 ∷ 0 ∷ 0 ∷ []
+  pub route-set : queue-phase (site 3 1) (strike-in ∷ ev 5 0 1 ∷ []) ≡ 0 ∷ 1 ∷ 1 ∷ []
+  pub release-269 : release 269 ≡ 0 ∷ 3 ∷ []
+  pub release-270 : release 270 ≡ 1 ∷ 0 ∷ []
+  pub both-moving : phase-signal (site 2 0) (closing ++ reports 1 1) ≡ 3 ∷ 2 ∷ []
+  pub one-up : phase-signal (site 2 0) (closing ++ reports 1 0) ≡ 3 ∷ 1 ∷ []
+  pub red-dead-road : getD (shown (site 3 0) (closed ++ ev 9 1 0 ∷ [])) 0 0 ≡ 0
+  pub red-dead-stop : phase-signal (site 3 0) (closed ++ ev 9 1 0 ∷ []) ≡ 3 ∷ 1 ∷ []
+  pub one-tick : getD (shown (site 3 0) (a-tick ∷ [])) 1 0 ≡ 0
+  pub flasher-dead : getD (shown (site 3 0) (ev 9 4 0 ∷ a-tick ∷ [])) 1 0 ≡ 13
+
+pub chart : Chart
+unfolding fresh-plant dependent reason booms-up booms-down booms-closed normal secured entry-in entry-zero track-in phase-in crossing-in crossing-zero place-in in-range place-limit value-limit refusal number calling-after waiting-after cancels act phase-ticked timer-ticked tick written-at phase-settled timer-settled out-settled settle touch apply written step after carried road signal distant rhythm lit bell boom-lamps right-down left-down released releases-shown status holds row panel book-entry book-site read-number read
+chart = record {
+  fresh = refl;
+  program = refl;
+  one-tick-fewer = refl;
+  gone-in-warning = refl;
+  raising = refl;
+  opened = refl;
+  again = refl;
+  again-timer = refl;
+  waits = refl;
+  route-set = refl;
+  release-269 = refl;
+  release-270 = refl;
+  both-moving = refl;
+  one-up = refl;
+  red-dead-road = refl;
+  red-dead-stop = refl;
+  one-tick = refl;
+  flasher-dead = refl;
+}

@@ -1,0 +1,83 @@
+-- What a taken event does to its own crossing, and a tick to each, before the crossing settles.
+use mathlib.Core.Bool.{Bool, true, false, cond, not, _&&_, _||_}
+use Prim.Native.Nat.{ℕ, _+_, _-_, pred}
+use lib.Dec.{eqb, ltb, leb}
+use Rattle.machine.specs.Common.{tab, bit}
+use Rattle.machine.specs.Plant.{Entry, Crossing, release-ticks, calling, waiting, route, occupied, boom, lamp, dependent, total}
+use Rattle.machine.specs.Events.{Event, is, is-to, is-at}
+
+-- An event of codes 1 to 9 -------------------------------------------------------------------------------------------------------
+-- a strike-in calls on a plain track or with the route set
+abbrev pub calls : Entry → Crossing → ℕ → Bool
+calls s c t = not (dependent s t) || route c t
+
+-- strike-in: calling + 1 or waiting + 1; passage: calling - 1, or waiting - 1 where calling is 0; setting a route moves all waiting to calling
+unfoldable pub calling-after : Entry → Crossing → Event → ℕ → ℕ
+calling-after s c e t =
+    cond (is-at 1 t e) (calling c t + bit (calls s c t) 1)
+    (cond (is-at 2 t e) (pred (calling c t))
+    (cond (is-at 5 t e && eqb (e .value) 1) (calling c t + waiting c t)
+    (calling c t)))
+
+unfoldable pub waiting-after : Entry → Crossing → Event → ℕ → ℕ
+waiting-after s c e t =
+    cond (is-at 1 t e) (waiting c t + bit (not (calls s c t)) 1)
+    (cond (is-at 2 t e) (waiting c t - bit (eqb (calling c t) 0) 1)
+    (cond (is-at 5 t e && eqb (e .value) 1) 0
+    (waiting c t)))
+
+-- a strike-in, a hold on, a route set or an approach occupied cancels the countdown, a repeat included
+unfoldable pub cancels : Event → Bool
+cancels e = is 1 e || is-to 3 1 e || is-to 4 1 e || is-to 5 1 e || is-to 6 1 e
+
+unfoldable pub act : Entry → Crossing → Event → Crossing
+act s c e = record {
+  calling = tab 4 (calling-after s c e);
+  waiting = tab 4 (waiting-after s c e);
+  route = tab 4 (λ t. cond (is-at 5 t e) (eqb (e .value) 1) (route c t));
+  occupied = tab 4 (λ t. cond (is-at 6 t e) (eqb (e .value) 1) (occupied c t));
+  booms = tab 4 (λ b. cond (is-at 8 b e) (e .value) (boom c b));
+  lamps = tab 5 (λ l. cond (is-at 9 l e) (eqb (e .value) 1) (lamp c l));
+  kiosk = cond (is 3 e) (eqb (e .value) 1) (c .kiosk);
+  operator = cond (is 4 e) (eqb (e .value) 1) (c .operator);
+  countdown = cond (is 7 e) release-ticks (cond (cancels e) 0 (c .countdown));
+  phase = c .phase;
+  timer = c .timer;
+  out = c .out;
+}
+
+-- A tick -------------------------------------------------------------------------------------------------------------------------
+-- this tick brings a running countdown to 0: the trains of the crossing are written off
+abbrev pub releases : Crossing → Bool
+releases c = eqb (c .countdown) 1
+
+-- timer at 0: phase 1 goes to 2 with timer G for kind 4, otherwise to 3; phase 2 goes to 3
+abbrev pub to-gap : Entry → ℕ → Bool
+to-gap s phase = eqb phase 1 && eqb (s .kind) 4
+
+unfoldable pub phase-ticked : Entry → ℕ → ℕ → ℕ
+phase-ticked s phase timer = cond (eqb timer 1) (cond (to-gap s phase) 2 3) phase
+
+unfoldable pub timer-ticked : Entry → ℕ → ℕ → ℕ
+timer-ticked s phase timer = cond (eqb timer 1) (bit (to-gap s phase) (s .gap)) (pred timer)
+
+-- the countdown, then the timer, by 1
+unfoldable pub tick : Entry → Crossing → Crossing
+tick s c = record {
+  calling = tab 4 (λ t. cond (releases c) 0 (calling c t));
+  waiting = tab 4 (λ t. cond (releases c) 0 (waiting c t));
+  route = c .route;
+  occupied = c .occupied;
+  booms = c .booms;
+  lamps = c .lamps;
+  kiosk = c .kiosk;
+  operator = c .operator;
+  countdown = pred (c .countdown);
+  phase = phase-ticked s (c .phase) (c .timer);
+  timer = timer-ticked s (c .phase) (c .timer);
+  out = c .out;
+}
+
+-- the trains that an event writes off at a crossing
+unfoldable pub written-at : Crossing → Event → ℕ
+written-at c e = bit (is 0 e && releases c) (total c)

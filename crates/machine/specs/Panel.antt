@@ -1,0 +1,109 @@
+-- Panel: sixteen bytes per crossing.
+use mathlib.Core.Bool.{Bool, true, false, cond, not, _&&_, _||_}
+use mathlib.Core.List.{List, [], _∷_}
+use Prim.Native.Nat.{ℕ, _+_, _*_}
+use lib.Dec.{eqb, ltb, leb}
+use lib.ListN.{length}
+use Rattle.machine.specs.Common.{concat-below, sum4, bit, refuse, low, high}
+use Rattle.machine.specs.Numbers.{bad-output-length, out-of-range}
+use Rattle.machine.specs.Plant.{Entry, Crossing, Plant, overdue-ticks, calling, waiting, route, boom, lamp, entry, crossing, dependent, booms-down, normal, secured}
+use Rattle.machine.specs.Range.{in-range}
+
+-- there are booms: kinds 2 to 4
+abbrev pub has-booms : Entry → Bool
+has-booms s = leb 2 (s .kind)
+
+-- byte 0, road: 1 white in normal position, else 2 red; 0 dark if that lamp is dead
+unfoldable pub road : Entry → Crossing → ℕ
+road s c = cond (normal s c) (bit (lamp c 0) 1) (bit (lamp c 1) 2)
+
+-- byte 6, train signal: 2 passable when secured, else 1 stop; 0 if that lamp is dead
+unfoldable pub signal : Entry → Crossing → ℕ
+signal s c = cond (secured s c) (bit (lamp c 3) 2) (bit (lamp c 2) 1)
+
+-- byte 7, distant: 2 white when byte 6 is 2, else 1 violet
+unfoldable pub distant : Entry → Crossing → ℕ
+distant s c = cond (eqb (signal s c) 2) 2 1
+
+-- slow rhythm, lit at beat 0; fast, lit at beats 0 and 2; flasher dead: steady
+abbrev pub slow : ℕ → Bool → Bool
+slow beat flasher = not flasher || eqb beat 0
+
+abbrev pub fast : ℕ → Bool → Bool
+fast beat flasher = not flasher || (eqb beat 0 || eqb beat 2)
+
+-- slow for road white and for stop and violet in normal position, fast for all else
+unfoldable pub rhythm : ℕ → Bool → Bool → Bool
+rhythm beat flasher still = cond still (slow beat flasher) (fast beat flasher)
+
+-- byte 1, lit in this beat: bits 1 road, 2 boom lamps, 4 train signal, 8 distant; a dark signal is not lit
+unfoldable pub lit : ℕ → Entry → Crossing → ℕ
+lit beat s c =
+    let on = rhythm beat (lamp c 4) (normal s c) in
+    bit (ltb 0 (road s c) && on) 1
+    + bit (not (normal s c) && has-booms s && on) 2
+    + bit (ltb 0 (signal s c) && on) 4
+    + bit on 8
+
+-- byte 2, bell: 1 out of normal, unless there are booms and all are reported down
+unfoldable pub bell : Entry → Crossing → ℕ
+bell s c = bit (not (normal s c) && not (has-booms s && booms-down (s .kind) (boom c))) 1
+
+-- byte 3, boom lamps: 1 out of normal, kinds 2 to 4
+unfoldable pub boom-lamps : Entry → Crossing → ℕ
+boom-lamps s c = bit (not (normal s c) && has-booms s) 1
+
+-- bytes 4 and 5, order down: right in phases 2 and 3, left in phase 3 of kind 4; 0 for kind 1
+unfoldable pub right-down : Entry → Crossing → ℕ
+right-down s c = bit (has-booms s && (eqb (c .phase) 2 || eqb (c .phase) 3)) 1
+
+unfoldable pub left-down : Entry → Crossing → ℕ
+left-down s c = bit (eqb (s .kind) 4 && eqb (c .phase) 3) 1
+
+-- byte 8, main signals released: bit t where t is dependent, its route set, secured
+unfoldable pub released : Entry → Crossing → ℕ → Bool
+released s c t = dependent s t && route c t && secured s c
+
+unfoldable pub releases-shown : Entry → Crossing → ℕ
+releases-shown s c = bit (released s c 0) 1 + bit (released s c 1) 2 + bit (released s c 2) 4 + bit (released s c 3) 8
+
+-- byte 9: bits 1 normal, 2 secured, 4 out of normal more than 900 ticks
+unfoldable pub status : Entry → Crossing → ℕ
+status s c = bit (normal s c) 1 + bit (secured s c) 2 + bit (ltb overdue-ticks (c .out)) 4
+
+-- byte 11, holds: 1 kiosk + 2 operator
+unfoldable pub holds : Crossing → ℕ
+holds c = bit (c .kiosk) 1 + bit (c .operator) 2
+
+-- the sixteen bytes; the last four are calling and waiting, summed over tracks, low byte first
+unfoldable pub row : ℕ → Entry → Crossing → List ℕ
+row beat s c =
+    road s c
+    ∷ lit beat s c
+    ∷ bell s c
+    ∷ boom-lamps s c
+    ∷ right-down s c
+    ∷ left-down s c
+    ∷ signal s c
+    ∷ distant s c
+    ∷ releases-shown s c
+    ∷ status s c
+    ∷ c .phase
+    ∷ holds c
+    ∷ low (sum4 (calling c))
+    ∷ high (sum4 (calling c))
+    ∷ low (sum4 (waiting c))
+    ∷ high (sum4 (waiting c))
+    ∷ []
+
+-- length 16n
+unfoldable pub panel : Plant → List ℕ
+panel p = concat-below (p .site .n) (λ i. row (p .beat) (entry p i) (crossing p i))
+
+-- A panel drawn: 15, 14. `lent` is what the output held
+unfoldable pub draw-number : Plant → List ℕ → ℕ
+draw-number p lent = refuse (not (in-range p)) out-of-range (refuse (not (eqb (length lent) (16 * p .site .n))) bad-output-length 0)
+
+-- the bytes of the output after the call: the panel or, refused, what it held
+unfoldable pub drawn : Plant → List ℕ → List ℕ
+drawn p lent = cond (eqb (draw-number p lent) 0) (panel p) lent

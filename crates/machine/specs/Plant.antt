@@ -1,0 +1,124 @@
+-- What the plant holds: how a record is read, the fresh plant, and what document 01 says of a whole crossing.
+use mathlib.Core.Bool.{Bool, true, false, cond, not, _&&_, _||_}
+use mathlib.Core.List.{List, []}
+use Prim.Native.Nat.{ℕ, _+_, _/_, _%_, _^_}
+use lib.Dec.{eqb, ltb, leb}
+use lib.ListN.{getD}
+pub use Rattle.machine.specs.declared.Entry.{Entry}
+pub use Rattle.machine.specs.declared.Site.{Site}
+pub use Rattle.machine.specs.declared.Crossing.{Crossing}
+pub use Rattle.machine.specs.declared.Plant.{Plant}
+use Rattle.machine.specs.Common.{tab, all-below, any-below, sum4}
+
+-- Constants ----------------------------------------------------------------------------------------------------------------------
+-- the release countdown begins here
+abbrev pub release-ticks : ℕ
+release-ticks = 270
+
+-- out of normal for more ticks than this is shown
+abbrev pub overdue-ticks : ℕ
+overdue-ticks = 900
+
+-- a track holds at most this many trains
+abbrev pub full : ℕ
+full = 255
+
+-- How a record is read -----------------------------------------------------------------------------------------------------------
+abbrev pub calling : Crossing → ℕ → ℕ
+calling c t = getD (c .calling) t 0
+
+abbrev pub waiting : Crossing → ℕ → ℕ
+waiting c t = getD (c .waiting) t 0
+
+abbrev pub route : Crossing → ℕ → Bool
+route c t = getD (c .route) t false
+
+abbrev pub occupied : Crossing → ℕ → Bool
+occupied c t = getD (c .occupied) t false
+
+abbrev pub boom : Crossing → ℕ → ℕ
+boom c b = getD (c .booms) b 0
+
+abbrev pub lamp : Crossing → ℕ → Bool
+lamp c l = getD (c .lamps) l false
+
+-- the trains of a track, and of a crossing
+abbrev pub trains : Crossing → ℕ → ℕ
+trains c t = calling c t + waiting c t
+
+abbrev pub total : Crossing → ℕ
+total c = sum4 (trains c)
+
+-- all zero: an entry past the last crossing
+abbrev pub no-entry : Entry
+no-entry = record { kind = 0; tracks = 0; mask = 0; pre = 0; gap = 0 }
+
+-- Fresh: no trains, holds, routes or occupation, booms up, lamps whole, phase 0; a record past the last crossing is all zero
+abbrev pub fresh-crossing : Bool → Crossing
+fresh-crossing used = record {
+  calling = tab 4 (λ t. 0);
+  waiting = tab 4 (λ t. 0);
+  route = tab 4 (λ t. false);
+  occupied = tab 4 (λ t. false);
+  booms = tab 4 (λ b. 0);
+  lamps = tab 5 (λ l. used);
+  kiosk = false;
+  operator = false;
+  countdown = 0;
+  phase = 0;
+  timer = 0;
+  out = 0;
+}
+
+abbrev pub no-crossing : Crossing
+no-crossing = fresh-crossing false
+
+abbrev pub entry : Plant → ℕ → Entry
+entry p i = getD (p .site .entries) i no-entry
+
+abbrev pub crossing : Plant → ℕ → Crossing
+crossing p i = getD (p .crossings) i no-crossing
+
+-- Fresh: beat 0 and each crossing fresh
+unfoldable pub fresh-plant : Site → Plant
+fresh-plant s = record { site = s; beat = 0; crossings = tab 8 (λ i. fresh-crossing (ltb i (s .n))) }
+
+-- Mask: bit t set where track t depends on a route
+unfoldable pub dependent : Entry → ℕ → Bool
+dependent s t = eqb ((s .mask / (2 ^ t)) % 2) 1
+
+-- Booms 0 and 1 stand right of the road, none for kind 1; 2 and 3 left, kind 4 alone
+abbrev pub boom-count : ℕ → ℕ
+boom-count kind = cond (leb kind 1) 0 (cond (eqb kind 4) 4 2)
+
+-- What holds of a crossing -------------------------------------------------------------------------------------------------------
+-- the test holds of each boom that a kind has
+abbrev pub each-boom : ℕ → (ℕ → Bool) → Bool
+each-boom kind f = all-below 4 (λ b. leb (boom-count kind) b || f b)
+
+-- a reason: some track is calling or a hold is on
+abbrev pub reason-of : Bool → Bool → (ℕ → ℕ) → Bool
+reason-of kiosk operator calling = kiosk || operator || any-below 4 (λ t. ltb 0 (calling t))
+
+unfoldable pub reason : Crossing → Bool
+reason c = reason-of (c .kiosk) (c .operator) (calling c)
+
+-- every boom reported up
+unfoldable pub booms-up : ℕ → (ℕ → ℕ) → Bool
+booms-up kind boom = each-boom kind (λ b. eqb (boom b) 0)
+
+-- every boom reported down
+unfoldable pub booms-down : ℕ → (ℕ → ℕ) → Bool
+booms-down kind boom = each-boom kind (λ b. eqb (boom b) 2)
+
+-- the booms as the kind demands: kind 2 no boom reported up, kinds 3 and 4 every boom reported down
+unfoldable pub booms-closed : ℕ → (ℕ → ℕ) → Bool
+booms-closed kind boom = each-boom kind (λ b. cond (eqb kind 2) (not (eqb (boom b) 0)) (eqb (boom b) 2))
+
+-- normal position: phase 0 and every boom last reported up
+unfoldable pub normal : Entry → Crossing → Bool
+normal s c = eqb (c .phase) 0 && booms-up (s .kind) (boom c)
+
+-- secured: phase 3, road red whole, and the booms as the kind demands
+unfoldable pub secured : Entry → Crossing → Bool
+secured s c = eqb (c .phase) 3 && lamp c 1 && booms-closed (s .kind) (boom c)

@@ -1,0 +1,78 @@
+-- Ranges: number 15, a held number outside its range, and the ranges of the settings (number 3).
+use mathlib.Core.Bool.{Bool, true, false, cond, not, _&&_, _||_}
+use Prim.Native.Nat.{ℕ, suc, _+_, _^_}
+use lib.Dec.{eqb, ltb, leb}
+use Rattle.machine.specs.Common.{all-below}
+use Rattle.machine.specs.Plant.{Entry, Site, Crossing, Plant, release-ticks, overdue-ticks, full, calling, waiting, route, occupied, boom, lamp, trains, entry, crossing, dependent, boom-count}
+
+-- G: 1 to 90 for kind 4, otherwise 0
+abbrev pub gap-in : ℕ → ℕ → Bool
+gap-in kind gap = cond (eqb kind 4) (leb 1 gap && leb gap 90) (eqb gap 0)
+
+-- Kind 1 to 4; tracks 1 to 4; no mask bit at or above the track count; F 1 to 180; G
+unfoldable pub entry-in : Entry → Bool
+entry-in s =
+    leb 1 (s .kind) && leb (s .kind) 4
+    && (leb 1 (s .tracks) && leb (s .tracks) 4)
+    && ltb (s .mask) (2 ^ s .tracks)
+    && (leb 1 (s .pre) && leb (s .pre) 180)
+    && gap-in (s .kind) (s .gap)
+
+-- an entry past n is all zero
+unfoldable pub entry-zero : Entry → Bool
+entry-zero s = eqb (s .kind) 0 && eqb (s .tracks) 0 && eqb (s .mask) 0 && eqb (s .pre) 0 && eqb (s .gap) 0
+
+-- nothing on a track
+abbrev pub track-zero : Crossing → ℕ → Bool
+track-zero c t = eqb (calling c t) 0 && eqb (waiting c t) 0 && not (route c t) && not (occupied c t)
+
+-- trains together at most 255; a plain track has no train waiting and no route; a track that the crossing lacks is all zero
+unfoldable pub track-in : Entry → Crossing → ℕ → Bool
+track-in s c t =
+    leb (trains c t) full
+    && (dependent s t || (eqb (waiting c t) 0 && not (route c t)))
+    && (ltb t (s .tracks) || track-zero c t)
+
+-- a report is 0 to 2; a boom that the crossing lacks is 0
+abbrev pub boom-in : Entry → Crossing → ℕ → Bool
+boom-in s c b = leb (boom c b) (cond (ltb b (boom-count (s .kind))) 2 0)
+
+-- timer 1 to F in phase 1, 1 to G in phase 2 (kind 4 only), 0 in phases 0, 3 and 4 (kinds 2 to 4)
+unfoldable pub phase-in : Entry → ℕ → ℕ → Bool
+phase-in s phase timer =
+    cond (eqb phase 1) (leb 1 timer && leb timer (s .pre))
+    (cond (eqb phase 2) (eqb (s .kind) 4 && (leb 1 timer && leb timer (s .gap)))
+    (eqb timer 0 && (eqb phase 0 || eqb phase 3 || (eqb phase 4 && leb 2 (s .kind)))))
+
+-- the numbers of a crossing
+unfoldable pub crossing-in : Entry → Crossing → Bool
+crossing-in s c =
+    all-below 4 (track-in s c)
+    && all-below 4 (boom-in s c)
+    && leb (c .countdown) release-ticks
+    && phase-in s (c .phase) (c .timer)
+    && leb (c .out) (suc overdue-ticks)
+
+-- a record past n is all zero
+unfoldable pub crossing-zero : Crossing → Bool
+crossing-zero c =
+    all-below 4 (track-zero c)
+    && all-below 4 (λ b. eqb (boom c b) 0)
+    && all-below 5 (λ l. not (lamp c l))
+    && not (c .kiosk) && not (c .operator)
+    && eqb (c .countdown) 0 && eqb (c .phase) 0 && eqb (c .timer) 0 && eqb (c .out) 0
+
+-- the entry and the record at place i of n
+unfoldable pub place-in : ℕ → ℕ → Entry → Crossing → Bool
+place-in n i s c = cond (ltb i n) (entry-in s && crossing-in s c) (entry-zero s && crossing-zero c)
+
+-- n is 1 to 8
+abbrev pub count-in : ℕ → Bool
+count-in n = leb 1 n && leb n 8
+
+-- every held number, settings included, is in its range
+unfoldable pub in-range : Plant → Bool
+in-range p =
+    count-in (p .site .n)
+    && leb (p .beat) 3
+    && all-below 8 (λ i. place-in (p .site .n) i (entry p i) (crossing p i))

@@ -1,0 +1,47 @@
+-- One event: the plant after it and its answer.
+use mathlib.Core.Bool.{Bool, true, false, cond, not, _&&_, _||_}
+use mathlib.Core.List.{List, [], _∷_}
+use Prim.Native.Nat.{ℕ, _+_, _%_}
+use lib.Dec.{eqb, ltb, leb}
+pub use Rattle.machine.specs.declared.Answer.{Answer}
+use Rattle.machine.specs.Common.{tab, sum-below}
+use Rattle.machine.specs.Plant.{Entry, Crossing, Plant, entry, crossing}
+use Rattle.machine.specs.Events.{Event, is, number}
+use Rattle.machine.specs.Effects.{act, tick, written-at}
+use Rattle.machine.specs.Settling.{settle}
+
+-- what a taken event makes of crossing i: after a tick every crossing settles, after another event its own
+unfoldable pub touch : Entry → ℕ → Crossing → Event → Crossing
+touch s i c e =
+    cond (is 0 e) (settle s 1 (tick s c))
+    (cond (eqb (e .crossing) i) (settle s 0 (act s c e))
+    c)
+
+-- a tick moves the beat on, after 3 to 0
+unfoldable pub apply : Plant → Event → Plant
+apply p e = record {
+  site = p .site;
+  beat = cond (is 0 e) ((p .beat + 1) % 4) (p .beat);
+  crossings = tab 8 (λ i. touch (entry p i) i (crossing p i) e);
+}
+
+-- the trains written off, summed over the plant; every answer but that of a tick carries 0
+unfoldable pub written : Plant → Event → ℕ
+written p e = sum-below 8 (λ i. written-at (crossing p i) e)
+
+-- taken: number 0. Refused: the number, the plant it was given and a zero count
+unfoldable pub step : Plant → Event → Answer
+step p e =
+    cond (eqb (number p e) 0)
+    (record { number = 0; written = written p e; plant = apply p e })
+    (record { number = number p e; written = 0; plant = p })
+
+-- A list of events: each gets the plant that the last one returned, taken or refused
+unfoldable pub after : Plant → List Event → Plant
+after p [] = p
+after p (e ∷ es) = after (step p e .plant) es
+
+-- the trains written off that the answers carry
+unfoldable pub carried : Plant → List Event → ℕ
+carried p [] = 0
+carried p (e ∷ es) = step p e .written + carried (step p e .plant) es

@@ -1,0 +1,129 @@
+// The types of the crossing engine (document 01, "What the plant holds") and the fresh plant.
+// What each event does and what each panel byte shows is defined in specs/.
+ghost use mathlib.Core.Path.{_≡_};
+ghost use Rattle.machine.specs.Plant.{fresh-crossing, fresh-plant};
+
+// The settings of one crossing: kind 1 to 4, tracks 1 to 4, the mask of dependent tracks, F and G in ticks.
+pub struct Entry {
+    pub kind: u8,
+    pub tracks: u8,
+    pub mask: u8,
+    pub pre: u16,
+    pub gap: u16,
+}
+
+// The settings of a plant: n crossings, the entries past n all zero.
+pub struct Site {
+    pub n: u8,
+    pub entries: [Entry; 8],
+}
+
+// One crossing: four arrays by track, the last reports of its booms and lamps, and its numbers.
+// Booms: 0 up, 1 moving, 2 down. Lamps: road white, road red, train signal red, train signal white, flasher.
+// Phases: 0 open, 1 warning, 2 right booms ordered down, 3 all ordered down, 4 raising.
+pub struct Crossing {
+    pub calling: [u8; 4],
+    pub waiting: [u8; 4],
+    pub route: [bool; 4],
+    pub occupied: [bool; 4],
+    pub booms: [u8; 4],
+    pub lamps: [bool; 5],
+    pub kiosk: bool,
+    pub operator: bool,
+    pub countdown: u16,
+    pub phase: u8,
+    pub timer: u16,
+    pub out: u16,
+}
+
+// The plant goes in and comes back by value.
+pub struct Plant {
+    pub site: Site,
+    pub beat: u8,
+    pub crossings: [Crossing; 8],
+}
+
+// An event: any four bytes.
+pub struct Event {
+    pub code: u8,
+    pub crossing: u8,
+    pub place: u8,
+    pub value: u8,
+}
+
+// What an event call returns: number 0 if taken, the trains written off, the plant after it.
+pub struct Answer {
+    pub number: u8,
+    pub written: u32,
+    pub plant: Plant,
+}
+
+// What reading a site book returns.
+pub struct Reading {
+    pub number: u8,
+    pub plant: Plant,
+}
+
+// What a sheet run returns.
+pub struct Run {
+    pub number: u8,
+    pub plant: Plant,
+    pub taken: u16,
+    pub refused: u16,
+    pub written: u32,
+}
+
+impl Crossing {
+    // The release countdown begins here, in ticks.
+    pub const RELEASE: u16 = 270;
+
+    // More ticks out of normal than this raise the panel's bit.
+    pub const OVERDUE: u16 = 900;
+
+    // A track holds at most this many trains.
+    pub const FULL: u8 = 255;
+
+    // A crossing at rest; a record past the last crossing is not used and all zero.
+    pub fn fresh(used: bool) -> Self
+        ensures { λ r. ⌜ r ≡ fresh-crossing used ⌝ }
+    {
+        Crossing {
+            calling: [0; 4],
+            waiting: [0; 4],
+            route: [false; 4],
+            occupied: [false; 4],
+            booms: [0; 4],
+            lamps: [used; 5],
+            kiosk: false,
+            operator: false,
+            countdown: 0,
+            phase: 0,
+            timer: 0,
+            out: 0,
+        }
+    }
+}
+
+impl Plant {
+    // The fresh plant of a site.
+    pub fn fresh(site: Site) -> Self
+        ensures { λ r. ⌜ r ≡ fresh-plant site ⌝ }
+    {
+        let n = site.n;
+        let crossings = [
+            Crossing::fresh(0 < n),
+            Crossing::fresh(1 < n),
+            Crossing::fresh(2 < n),
+            Crossing::fresh(3 < n),
+            Crossing::fresh(4 < n),
+            Crossing::fresh(5 < n),
+            Crossing::fresh(6 < n),
+            Crossing::fresh(7 < n),
+        ];
+        Plant {
+            site,
+            beat: 0,
+            crossings,
+        }
+    }
+}
