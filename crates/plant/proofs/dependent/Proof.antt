@@ -5,23 +5,17 @@ use Rattle.machine.specs.Plant.{dependent}
 use borrow.Author.Needs.{needs}
 use Rattle.plant.proofs.dependent.Statement.{statement}
 use Rattle.plant.proofs.dependent.Tie as tie
-use Rattle.plant.proofs.dependent.Reads as reads
-use Rattle.plant.proofs.dependent.Lts as lts
 
--- src/lib.rt:33:27
 cast-result : tie.Need-cast-result
 cast-result c = search needs
 
--- src/lib.rt:33:17
 shr-result : tie.Need-shr-result
 shr-result c = search needs
 
--- src/lib.rt:30:1
 returns : tie.Need-returns
 unfolding dependent
 returns c = refl
 
--- src/lib.rt:30:1
 returns-2 : tie.Need-returns-2
 unfolding dependent
 returns-2 c = no-bit (c .before .args .s .mask) (c .before .args .t) (omega arith) (c .if1 .left)

@@ -2,10 +2,7 @@ use mathlib.Core.Path.{refl}
 use Rattle.machine.specs.Range.{entry-zero}
 use Rattle.plant.proofs.entry_zero.Statement.{statement}
 use Rattle.plant.proofs.entry_zero.Tie as tie
-use Rattle.plant.proofs.entry_zero.Reads as reads
-use Rattle.plant.proofs.entry_zero.Lts as lts
 
--- src/lib.rt:82:1
 returns : tie.Need-returns
 unfolding entry-zero
 returns c = refl

@@ -1,6 +1,8 @@
 use native.Mathlib.Numerals.{add-one}
 use native.Mathlib.Omega.{arith}
-use Prim.Native.Nat.{_≤_, _-_}
+use Prim.Native.Nat.{_≤_, _<_, _-_}
+use lib.ListN.{length, length-map}
+use Rattle.plant.proofs.Laws.{crossing-read}
 use mathlib.Core.Path.{_≡_}
 use Rattle.machine.specs.Common.{all-below}
 use Rattle.machine.specs.Plant.{entry, crossing}
@@ -8,10 +10,6 @@ use Rattle.machine.specs.Range.{in-range, place-in}
 use borrow.Author.Needs.{needs}
 use Rattle.plant.proofs.in_range.Statement.{statement}
 use Rattle.plant.proofs.in_range.Tie as tie
-use Rattle.plant.proofs.in_range.Reads as reads
-use Rattle.plant.proofs.in_range.Lts as lts
-use Rattle.plant.proofs.count_in.Reads as count-in-reads
-use Rattle.plant.proofs.place_in.Reads as place-in-reads
 
 abbrev Inv-loop : tie.InvT-loop
 Inv-loop p site n places₀ i₀ places i = (i ≤ 8) × (places ≡ all-below i (λ j. place-in (p .site .n) j (entry p j) (crossing p j)))
@@ -19,47 +17,41 @@ Inv-loop p site n places₀ i₀ places i = (i ≤ 8) × (places ≡ all-below i
 abbrev μ-loop : tie.MeasureT-loop
 μ-loop p site n places₀ i₀ places i = 8 - i
 
--- src/lib.rt:205:5
 loop-holds : tie.Need-loop-holds Inv-loop μ-loop
 loop-holds c = search needs
 
--- src/lib.rt:206:17
 mul-s : tie.Need-mul-s Inv-loop μ-loop
 mul-s c = search needs
 
--- src/lib.rt:206:17
 element-copy-out-s : tie.Need-element-copy-out-s Inv-loop μ-loop
 element-copy-out-s c = search needs
 
--- src/lib.rt:207:17
 mul-c : tie.Need-mul-c Inv-loop μ-loop
 mul-c c = search needs
 
--- src/lib.rt:207:17
 element-copy-out-c : tie.Need-element-copy-out-c Inv-loop μ-loop
 element-copy-out-c c = search needs
 
--- src/lib.rt:208:27
 place-in-requires : tie.Need-place-in-requires Inv-loop μ-loop
 place-in-requires c κs = search needs
 
--- src/lib.rt:209:9
 add-i : tie.Need-add-i Inv-loop μ-loop
 add-i c = search needs
 
--- src/lib.rt:205:5
 loop-less : tie.Need-loop-less Inv-loop μ-loop
 loop-less c = search needs
 
--- src/lib.rt:205:5
 loop-again : tie.Need-loop-again Inv-loop μ-loop
-loop-again c = (search needs, simp (add-one, c .before .before .before .before .loop .inv .1, c .place-in .ensures) ?)
+loop-again c =
+    let p = c .before .before .before .before .before .before .args .t1 in
+    let i = c .before .before .before .before .loop .i in
+    let eight : length (p .crossings) ≡ 8 = simp length-map at (c .before .before .before .before .before .before .good .0 .1 .1 .1 .1 .0 .1 .0 .1) in
+    let l : i < length (p .crossings) = omega arith in
+    (search needs, simp (add-one, c .before .before .before .before .loop .inv .1, c .place-in .ensures, crossing-read (p .crossings) i l))
 
--- src/lib.rt:211:5
 count-in-requires : tie.Need-count-in-requires Inv-loop μ-loop
 count-in-requires c κs = search needs
 
--- src/lib.rt:198:1
 returns : tie.Need-returns Inv-loop μ-loop
 unfolding in-range
 returns c = let h : c .before .before .loop .i ≡ 8 = omega arith in simp (c .count-in .ensures, c .before .before .loop .inv .1, h)

@@ -2,20 +2,15 @@ use borrow.Author.Tests.{ne-eqb}
 use Rattle.machine.specs.Range.{phase-in}
 use Rattle.plant.proofs.phase_in.Statement.{statement}
 use Rattle.plant.proofs.phase_in.Tie as tie
-use Rattle.plant.proofs.phase_in.Reads as reads
-use Rattle.plant.proofs.phase_in.Lts as lts
 
--- src/lib.rt:141:1
 returns : tie.Need-returns
 unfolding phase-in
 returns c = simp (c .before .match .keys1)
 
--- src/lib.rt:141:1
 returns-2 : tie.Need-returns-2
 unfolding phase-in
 returns-2 c = simp (c .before .before .match .keys2)
 
--- src/lib.rt:141:1
 returns-3 : tie.Need-returns-3
 unfolding phase-in
 returns-3 c = simp (ne-eqb _ _ (c .before .match .rest .1), ne-eqb _ _ (c .before .match .rest .0 .1))

@@ -1,26 +1,19 @@
 use Rattle.plant.proofs.Laws.{outside}
 use Rattle.plant.proofs.tracks_in.Statement.{statement}
 use Rattle.plant.proofs.tracks_in.Tie as tie
-use Rattle.plant.proofs.tracks_in.Reads as reads
-use Rattle.plant.proofs.tracks_in.Lts as lts
 
--- src/lib.rt:47:1
 returns : tie.Need-returns
 returns c = simp (c .match .keys1)
 
--- src/lib.rt:47:1
 returns-2 : tie.Need-returns-2
 returns-2 c = simp (c .match .keys2)
 
--- src/lib.rt:47:1
 returns-3 : tie.Need-returns-3
 returns-3 c = simp (c .match .keys3)
 
--- src/lib.rt:47:1
 returns-4 : tie.Need-returns-4
 returns-4 c = simp (c .match .keys4)
 
--- src/lib.rt:47:1
 returns-5 : tie.Need-returns-5
 returns-5 c = outside _ _ (c .match .rest .0 .0 .0 .1) (c .match .rest .0 .0 .1) (c .match .rest .0 .1) (c .match .rest .1)
 
