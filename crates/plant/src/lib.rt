@@ -1,5 +1,7 @@
 // The range check: every held number of a plant, settings included, is in its range (number 15), and the settings of one crossing (number 3).
 // Each test equals its definition in the machine's Range and Plant; no function has a `requires`.
+pub mod booms;
+
 use machine::Crossing;
 use machine::Entry;
 use machine::Plant;
