@@ -4,7 +4,7 @@ ghost use mathlib.Core.Path.{_≡_};
 ghost use lib.ListN.{getD};
 ghost use lib.Dec.{ltb};
 ghost use Rattle.machine.specs.Common.{any-below, bit};
-ghost use Rattle.machine.specs.Plant.{boom-count, booms-up, reason};
+ghost use Rattle.machine.specs.Plant.{booms-up, reason};
 ghost use Rattle.machine.specs.Settling.{phase-settled, timer-settled, out-settled, settle};
 
 // Some track is calling.
@@ -22,23 +22,11 @@ pub fn stands(c: Crossing) -> bool
     c.kiosk | c.operator | any_calling(calling)
 }
 
-fn boom_count(kind: u8) -> u8
-    ensures { λ r. ⌜ r ≡ boom-count kind ⌝ }
-{
-    if kind <= 1 {
-        return 0;
-    }
-    if kind == 4 {
-        return 4;
-    }
-    2
-}
-
 // Every boom that the kind has is reported up.
 fn all_up(kind: u8, booms: [u8; 4]) -> bool
     ensures { λ r. ⌜ r ≡ booms-up kind (λ b. getD booms b 0) ⌝ }
 {
-    let n = boom_count(kind);
+    let n = plant::boom_count(kind);
     ((n <= 0) | (booms[0] == 0))
         & ((n <= 1) | (booms[1] == 0))
         & ((n <= 2) | (booms[2] == 0))

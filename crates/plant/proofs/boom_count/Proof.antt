@@ -1,18 +1,13 @@
 use borrow.Author.Tests.{eq-eqb, le-leb, lt-leb, ne-eqb}
-use Rattle.settle.proofs.boom_count.Statement.{statement}
-use Rattle.settle.proofs.boom_count.Tie as tie
-use Rattle.settle.proofs.boom_count.Reads as reads
-use Rattle.settle.proofs.boom_count.Lts as lts
+use Rattle.plant.proofs.boom_count.Statement.{statement}
+use Rattle.plant.proofs.boom_count.Tie as tie
 
--- src/lib.rt:31:9
 returns : tie.Need-returns
 returns c = simp (le-leb _ _ (c .if1 .taken))
 
--- src/lib.rt:34:9
 returns-2 : tie.Need-returns-2
 returns-2 c = simp (eq-eqb _ _ (c .if2 .taken), lt-leb _ _ (c .before .if1 .left))
 
--- src/lib.rt:27:1
 returns-3 : tie.Need-returns-3
 returns-3 c = simp (ne-eqb _ _ (c .if2 .left), lt-leb _ _ (c .before .if1 .left))
 
