@@ -2,7 +2,7 @@
 use mathlib.Core.Path.{_≡_, refl, sym, _∙_}
 use mathlib.Core.Bool.{Bool, true, false}
 use mathlib.Core.List.{List, [], _∷_}
-use Prim.Native.Nat.{ℕ, zero, suc, _+_, _≤_, _<_}
+use Prim.Native.Nat.{ℕ, zero, suc, _+_, _-_, _≤_, _<_}
 use native.Mathlib.Omega.{arith}
 use native.Mathlib.Nat.{add-zero, add-suc}
 use lib.Dec.{eqb, ltb}
@@ -45,9 +45,14 @@ module _ {A : Type 0} (f : ℕ → A) (l : List A) (d : A) where
       (λ q. let u : k ≤ i = ltb-false i k q in past-first k i u ∙ (sym (h i u w) ∙ sym (getD-tab m f d i w))))
 
 -- a sum over more places, at which f is 0, is the same
-pub sum-more : (f : ℕ → ℕ) (k m : ℕ) → ((i : ℕ) → k ≤ i → i < k + m → f i ≡ 0) → sum-below k f ≡ sum-below (k + m) f
+sum-more : (f : ℕ → ℕ) (k m : ℕ) → ((i : ℕ) → k ≤ i → i < k + m → f i ≡ 0) → sum-below k f ≡ sum-below (k + m) f
 sum-more f k zero h = rw add-zero
 sum-more f k (suc m) h =
     let z : f (k + m) ≡ 0 = h (k + m) (omega arith) (omega arith) in
     let r = sum-more f k m (λ i a b. h i a (omega arith)) in
     rw (add-suc, z) (omega arith)
+
+pub sum-up : (f : ℕ → ℕ) (k n : ℕ) → k ≤ n → ((i : ℕ) → k ≤ i → i < n → f i ≡ 0) → sum-below k f ≡ sum-below n f
+sum-up f k n b h =
+    let e : k + (n - k) ≡ n = omega arith in
+    rw e at (sum-more f k (n - k) (λ i a l. h i a (omega arith)))

@@ -4,33 +4,25 @@ use Rattle.machine.specs.Settling.{out-settled}
 use borrow.Author.Needs.{needs}
 use Rattle.settle.proofs.out_settled.Statement.{statement}
 use Rattle.settle.proofs.out_settled.Tie as tie
-use Rattle.settle.proofs.out_settled.Reads as reads
-use Rattle.settle.proofs.out_settled.Lts as lts
 
--- src/lib.rt:82:9
 returns : tie.Need-returns
 unfolding out-settled
 returns c = simp (c .if1 .taken)
 
--- src/lib.rt:86:20
 add-result : tie.Need-add-result
 add-result c = search needs
 
--- src/lib.rt:86:13
 returns-2 : tie.Need-returns-2
 unfolding out-settled
 returns-2 c = simp (c .if3 .taken, le-leb _ _ (c .before .if2 .taken), c .before .before .if1 .left)
 
--- src/lib.rt:88:9
 returns-3 : tie.Need-returns-3
 unfolding out-settled
 returns-3 c = simp (c .if3 .left, le-leb _ _ (c .before .if2 .taken), c .before .before .if1 .left) (omega arith)
 
--- src/lib.rt:90:5
 add-result-2 : tie.Need-add-result-2
 add-result-2 c = search needs
 
--- src/lib.rt:78:1
 returns-4 : tie.Need-returns-4
 unfolding out-settled
 returns-4 c = simp (lt-leb _ _ (c .if2 .left), c .before .if1 .left)

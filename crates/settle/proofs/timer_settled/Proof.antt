@@ -2,20 +2,15 @@ use borrow.Author.Tests.{eq-eqb, ne-eqb}
 use Rattle.machine.specs.Settling.{timer-settled}
 use Rattle.settle.proofs.timer_settled.Statement.{statement}
 use Rattle.settle.proofs.timer_settled.Tie as tie
-use Rattle.settle.proofs.timer_settled.Reads as reads
-use Rattle.settle.proofs.timer_settled.Lts as lts
 
--- src/lib.rt:72:9
 returns : tie.Need-returns
 unfolding timer-settled
 returns c = simp (eq-eqb _ _ (c .if1 .taken))
 
--- src/lib.rt:68:1
 returns-2 : tie.Need-returns-2
 unfolding timer-settled
 returns-2 c = simp (eq-eqb _ _ (c .if2 .taken), ne-eqb _ _ (c .before .if1 .left))
 
--- src/lib.rt:68:1
 returns-3 : tie.Need-returns-3
 unfolding timer-settled
 returns-3 c = simp (ne-eqb _ _ (c .if2 .left), ne-eqb _ _ (c .before .if1 .left))
