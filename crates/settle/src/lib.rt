@@ -8,7 +8,7 @@ ghost use Rattle.machine.specs.Plant.{booms-up, reason};
 ghost use Rattle.machine.specs.Settling.{phase-settled, timer-settled, out-settled, settle};
 
 // Some track is calling.
-fn any_calling(calling: [u8; 4]) -> bool
+pub fn any_calling(calling: [u8; 4]) -> bool
     ensures { λ r. ⌜ r ≡ any-below 4 (λ t. ltb 0 (getD calling t 0)) ⌝ }
 {
     (0 < calling[0]) | (0 < calling[1]) | (0 < calling[2]) | (0 < calling[3])
