@@ -1,1 +1,3 @@
 pub mod Tools
+pub mod Trains
+pub mod Taken
