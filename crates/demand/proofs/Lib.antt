@@ -1,2 +1,5 @@
 pub mod Lists
+pub mod Unbroken
 pub mod Timing
+pub mod Agree
+pub mod Account
