@@ -1,3 +1,6 @@
 pub mod Tools
 pub mod Trains
 pub mod Taken
+pub mod Ranges
+pub mod Stays
+pub mod Laws

@@ -1,0 +1,260 @@
+-- What the range tests say, as facts: a test that holds gives its record, and the record gives the test.
+use mathlib.Core.Path.{_≡_, refl, sym, _∙_, ap, subst}
+use mathlib.Core.Bool.{Bool, true, false, cond, not, _&&_, _||_, true≢false, false≢true}
+use Prim.Native.Nat.{ℕ, suc, _+_, _^_, _≤_, _<_}
+use native.Mathlib.Omega.{arith}
+use lib.Dec.{eqb, ltb, leb}
+use borrow.Author.Tests.{eqb-true, eqb-false, leb-true, leb-false, ltb-true, ltb-false, eq-eqb, le-leb, lt-ltb, le-ltb, not-true}
+use Rattle.machine.specs.Common.{all-below}
+use Rattle.machine.specs.Plant.{Entry, Crossing, Plant, release-ticks, overdue-ticks, full, calling, waiting, route, occupied, boom, lamp, trains, entry, crossing, dependent, boom-count}
+use Rattle.machine.specs.Range.{gap-in, entry-in, entry-zero, track-zero, track-in, boom-in, phase-in, crossing-in, crossing-zero, place-in, count-in, in-range}
+use Rattle.machine.proofs.Tools.{by-test, by-cond, and-both, and-intro, or-right, or-left-false, all-below-intro, all-below-at}
+
+-- The settings ---------------------------------------------------------------------------------------------------------------------
+pub record EntryIn (s : Entry) : Type 0 where
+  pub some-kind : 1 ≤ s .kind
+  pub kind : s .kind ≤ 4
+  pub some-track : 1 ≤ s .tracks
+  pub tracks : s .tracks ≤ 4
+  pub mask : s .mask < 2 ^ s .tracks
+  pub some-pre : 1 ≤ s .pre
+  pub pre : s .pre ≤ 180
+  pub gap : gap-in (s .kind) (s .gap) ≡ true
+
+pub entry-reads : (s : Entry) → entry-in s ≡ true → EntryIn s
+unfolding entry-in
+entry-reads s q =
+    let g = and-both _ (gap-in (s .kind) (s .gap)) q in
+    let f = and-both _ (leb 1 (s .pre) && leb (s .pre) 180) (g .0) in
+    let m = and-both _ (ltb (s .mask) (2 ^ s .tracks)) (f .0) in
+    let t = and-both _ (leb 1 (s .tracks) && leb (s .tracks) 4) (m .0) in
+    let k = and-both (leb 1 (s .kind)) _ (t .0) in
+    let t2 = and-both (leb 1 (s .tracks)) _ (t .1) in
+    let f2 = and-both (leb 1 (s .pre)) _ (f .1) in
+    record {
+      some-kind = leb-true _ _ (k .0);
+      kind = leb-true _ _ (k .1);
+      some-track = leb-true _ _ (t2 .0);
+      tracks = leb-true _ _ (t2 .1);
+      mask = ltb-true _ _ (m .1);
+      some-pre = leb-true _ _ (f2 .0);
+      pre = leb-true _ _ (f2 .1);
+      gap = g .1;
+    }
+
+-- G of four booms is at least 1
+pub some-gap : {s : Entry} → EntryIn s → eqb (s .kind) 4 ≡ true → 1 ≤ s .gap
+some-gap {s} h four = leb-true _ _ (and-both (leb 1 (s .gap)) (leb (s .gap) 90) (rw four at (h .gap)) .0)
+
+-- One track: its number t and what it holds ----------------------------------------------------------------------------------------
+pub record Zero (k w : ℕ) (r o : Bool) : Type 0 where
+  pub calling : k ≡ 0
+  pub waiting : w ≡ 0
+  pub route : r ≡ false
+  pub occupied : o ≡ false
+
+pub record TrackIn (s : Entry) (t k w : ℕ) (r o : Bool) : Type 0 where
+  pub few : k + w ≤ full
+  pub plain : dependent s t ≡ false → (w ≡ 0) × (r ≡ false)
+  pub lacking : s .tracks ≤ t → Zero k w r o
+
+abbrev pub ZeroAt : Crossing → ℕ → Type 0
+ZeroAt c t = Zero (calling c t) (waiting c t) (route c t) (occupied c t)
+
+abbrev pub TrackAt : Entry → Crossing → ℕ → Type 0
+TrackAt s c t = TrackIn s t (calling c t) (waiting c t) (route c t) (occupied c t)
+
+module _ (c : Crossing) (t : ℕ) where
+  pub zero-reads : track-zero c t ≡ true → ZeroAt c t
+  zero-reads q =
+      let o = and-both _ (not (occupied c t)) q in
+      let r = and-both _ (not (route c t)) (o .0) in
+      let w = and-both (eqb (calling c t) 0) (eqb (waiting c t) 0) (r .0) in
+      record { calling = eqb-true _ _ (w .0); waiting = eqb-true _ _ (w .1); route = not-true _ (r .1); occupied = not-true _ (o .1) }
+
+  pub zero-tests : ZeroAt c t → track-zero c t ≡ true
+  zero-tests z = rw (z .calling, z .waiting, z .route, z .occupied)
+
+  module _ (s : Entry) where
+    pub track-reads : track-in s c t ≡ true → TrackAt s c t
+    unfolding track-in
+    track-reads q =
+        let l = and-both _ (ltb t (s .tracks) || track-zero c t) q in
+        let p = and-both (leb (trains c t) full) (dependent s t || (eqb (waiting c t) 0 && not (route c t))) (l .0) in
+        record {
+          few = leb-true _ _ (p .0);
+          plain = λ d. let a = and-both (eqb (waiting c t) 0) _ (or-left-false (dependent s t) _ d (p .1)) in (eqb-true _ _ (a .0), not-true _ (a .1));
+          lacking = λ b. zero-reads (or-left-false (ltb t (s .tracks)) _ (le-ltb _ _ b) (l .1));
+        }
+
+    pub track-tests : TrackAt s c t → track-in s c t ≡ true
+    unfolding track-in
+    track-tests h =
+        and-intro (and-intro (le-leb _ _ (h .few)) (or-right (dependent s t) (eqb (waiting c t) 0 && not (route c t)) (λ d. rw (h .plain d .0, h .plain d .1))))
+        (or-right (ltb t (s .tracks)) (track-zero c t) (λ b. zero-tests (h .lacking (ltb-false _ _ b))))
+
+-- Phase and timer ------------------------------------------------------------------------------------------------------------------
+pub data PhaseIn (s : Entry) (phase timer : ℕ) : Type 0 where
+  opened : phase ≡ 0 → timer ≡ 0 → PhaseIn s phase timer
+  warning : phase ≡ 1 → 1 ≤ timer → timer ≤ s .pre → PhaseIn s phase timer
+  right : phase ≡ 2 → eqb (s .kind) 4 ≡ true → 1 ≤ timer → timer ≤ s .gap → PhaseIn s phase timer
+  closed : phase ≡ 3 → timer ≡ 0 → PhaseIn s phase timer
+  raising : phase ≡ 4 → timer ≡ 0 → 2 ≤ s .kind → PhaseIn s phase timer
+
+module _ (s : Entry) (phase timer : ℕ) where
+  pub phase-tests : PhaseIn s phase timer → phase-in s phase timer ≡ true
+  unfolding phase-in
+  phase-tests (opened p z) = rw (p, z)
+  phase-tests (warning p l h) = rw p (and-intro (le-leb _ _ l) (le-leb _ _ h))
+  phase-tests (right p q l h) = rw p (and-intro q (and-intro (le-leb _ _ l) (le-leb _ _ h)))
+  phase-tests (closed p z) = rw (p, z)
+  phase-tests (raising p z h) = rw (p, z) (le-leb _ _ h)
+
+  rest : (timer ≡ 0) → (eqb phase 0 || eqb phase 3 || (eqb phase 4 && leb 2 (s .kind))) ≡ true → PhaseIn s phase timer
+  rest z q = by-test (eqb phase 0) (λ a. opened (eqb-true _ _ a) z) (λ a.
+      by-test (eqb phase 3) (λ b. closed (eqb-true _ _ b) z) (λ b.
+      let d = and-both (eqb phase 4) (leb 2 (s .kind)) (rw (a, b) at q) in raising (eqb-true _ _ (d .0)) z (leb-true _ _ (d .1))))
+
+  pub phase-reads : phase-in s phase timer ≡ true → PhaseIn s phase timer
+  unfolding phase-in
+  phase-reads q = by-test (eqb phase 1)
+      (λ a. let b = and-both (leb 1 timer) _ (rw a at q) in warning (eqb-true _ _ a) (leb-true _ _ (b .0)) (leb-true _ _ (b .1)))
+      (λ a. by-test (eqb phase 2)
+      (λ b. let d = and-both (eqb (s .kind) 4) _ (rw (a, b) at q) in let f = and-both (leb 1 timer) _ (d .1) in right (eqb-true _ _ b) (d .0) (leb-true _ _ (f .0)) (leb-true _ _ (f .1)))
+      (λ b. let d = and-both (eqb timer 0) _ (rw (a, b) at q) in rest (eqb-true _ _ (d .0)) (d .1)))
+
+-- One crossing ---------------------------------------------------------------------------------------------------------------------
+pub record CrossingIn (s : Entry) (c : Crossing) : Type 0 where
+  pub track : (t : ℕ) → t < 4 → TrackAt s c t
+  pub boom : (b : ℕ) → b < 4 → boom-in s c b ≡ true
+  pub countdown : c .countdown ≤ release-ticks
+  pub phase : PhaseIn s (c .phase) (c .timer)
+  pub out : c .out ≤ suc overdue-ticks
+
+module _ (s : Entry) (c : Crossing) where
+  pub crossing-reads : crossing-in s c ≡ true → CrossingIn s c
+  unfolding crossing-in
+  crossing-reads q =
+      let o = and-both _ (leb (c .out) (suc overdue-ticks)) q in
+      let p = and-both _ (phase-in s (c .phase) (c .timer)) (o .0) in
+      let d = and-both _ (leb (c .countdown) release-ticks) (p .0) in
+      let b = and-both (all-below 4 (track-in s c)) (all-below 4 (boom-in s c)) (d .0) in
+      record {
+        track = λ t l. track-reads c t s (all-below-at 4 (track-in s c) (b .0) t l);
+        boom = all-below-at 4 (boom-in s c) (b .1);
+        countdown = leb-true _ _ (d .1);
+        phase = phase-reads s (c .phase) (c .timer) (p .1);
+        out = leb-true _ _ (o .1);
+      }
+
+  pub crossing-tests : CrossingIn s c → crossing-in s c ≡ true
+  unfolding crossing-in
+  crossing-tests h =
+      and-intro (and-intro (and-intro (and-intro
+      (all-below-intro 4 (track-in s c) (λ t l. track-tests c t s (h .track t l)))
+      (all-below-intro 4 (boom-in s c) (h .boom)))
+      (le-leb _ _ (h .countdown)))
+      (phase-tests s (c .phase) (c .timer) (h .phase)))
+      (le-leb _ _ (h .out))
+
+-- A record past the last crossing --------------------------------------------------------------------------------------------------
+pub record NoCrossing (c : Crossing) : Type 0 where
+  pub track : (t : ℕ) → t < 4 → ZeroAt c t
+  pub boom : (b : ℕ) → b < 4 → boom c b ≡ 0
+  pub lamp : (l : ℕ) → l < 5 → lamp c l ≡ false
+  pub kiosk : c .kiosk ≡ false
+  pub operator : c .operator ≡ false
+  pub countdown : c .countdown ≡ 0
+  pub phase : c .phase ≡ 0
+  pub timer : c .timer ≡ 0
+  pub out : c .out ≡ 0
+
+module _ (c : Crossing) where
+  pub no-crossing-reads : crossing-zero c ≡ true → NoCrossing c
+  unfolding crossing-zero
+  no-crossing-reads q =
+      let o = and-both _ (eqb (c .out) 0) q in
+      let i = and-both _ (eqb (c .timer) 0) (o .0) in
+      let p = and-both _ (eqb (c .phase) 0) (i .0) in
+      let d = and-both _ (eqb (c .countdown) 0) (p .0) in
+      let h = and-both _ (not (c .operator)) (d .0) in
+      let k = and-both _ (not (c .kiosk)) (h .0) in
+      let l = and-both _ (all-below 5 (λ l. not (lamp c l))) (k .0) in
+      let b = and-both (all-below 4 (track-zero c)) (all-below 4 (λ b. eqb (boom c b) 0)) (l .0) in
+      record {
+        track = λ t m. zero-reads c t (all-below-at 4 (track-zero c) (b .0) t m);
+        boom = λ n m. eqb-true _ _ (all-below-at 4 (λ b. eqb (boom c b) 0) (b .1) n m);
+        lamp = λ n m. not-true _ (all-below-at 5 (λ l. not (lamp c l)) (l .1) n m);
+        kiosk = not-true _ (k .1);
+        operator = not-true _ (h .1);
+        countdown = eqb-true _ _ (d .1);
+        phase = eqb-true _ _ (p .1);
+        timer = eqb-true _ _ (i .1);
+        out = eqb-true _ _ (o .1);
+      }
+
+  pub no-crossing-tests : NoCrossing c → crossing-zero c ≡ true
+  unfolding crossing-zero
+  no-crossing-tests h =
+      and-intro (and-intro (and-intro (and-intro (and-intro (and-intro (and-intro (and-intro
+      (all-below-intro 4 (track-zero c) (λ t m. zero-tests c t (h .track t m)))
+      (all-below-intro 4 (λ b. eqb (boom c b) 0) (λ b m. eq-eqb _ _ (h .boom b m))))
+      (all-below-intro 5 (λ l. not (lamp c l)) (λ l m. ap not (h .lamp l m))))
+      (ap not (h .kiosk))) (ap not (h .operator)))
+      (eq-eqb _ _ (h .countdown))) (eq-eqb _ _ (h .phase))) (eq-eqb _ _ (h .timer))) (eq-eqb _ _ (h .out))
+
+-- an entry past the last crossing has kind 0 and so no boom
+pub zero-kind : (s : Entry) → entry-zero s ≡ true → s .kind ≡ 0
+unfolding entry-zero
+zero-kind s q =
+    let g = and-both _ (eqb (s .gap) 0) q in
+    let f = and-both _ (eqb (s .pre) 0) (g .0) in
+    let m = and-both _ (eqb (s .mask) 0) (f .0) in
+    eqb-true _ _ (and-both (eqb (s .kind) 0) (eqb (s .tracks) 0) (m .0) .0)
+
+-- The plant ------------------------------------------------------------------------------------------------------------------------
+pub record PlantIn (p : Plant) : Type 0 where
+  pub some : 1 ≤ p .site .n
+  pub count : p .site .n ≤ 8
+  pub beat : p .beat ≤ 3
+  pub entry-test : (i : ℕ) → i < p .site .n → entry-in (entry p i) ≡ true
+  pub used : (i : ℕ) → i < p .site .n → CrossingIn (entry p i) (crossing p i)
+  pub entry-past : (i : ℕ) → i < 8 → p .site .n ≤ i → entry-zero (entry p i) ≡ true
+  pub past : (i : ℕ) → i < 8 → p .site .n ≤ i → NoCrossing (crossing p i)
+
+module _ (p : Plant) where
+  abbrev here : ℕ → Bool
+  here i = place-in (p .site .n) i (entry p i) (crossing p i)
+
+  pub plant-reads : in-range p ≡ true → PlantIn p
+  unfolding in-range place-in
+  plant-reads q =
+      let a = and-both _ (all-below 8 here) q in
+      let b = and-both (count-in (p .site .n)) (leb (p .beat) 3) (a .0) in
+      let n = and-both (leb 1 (p .site .n)) (leb (p .site .n) 8) (b .0) in
+      let few : p .site .n ≤ 8 = leb-true _ _ (n .1) in
+      let in-use : (i : ℕ) → i < p .site .n → (entry-in (entry p i) && crossing-in (entry p i) (crossing p i)) ≡ true =
+      (λ i l. rw (lt-ltb i (p .site .n) l) at (all-below-at 8 here (a .1) i (omega arith))) in
+      let unused : (i : ℕ) → i < 8 → p .site .n ≤ i → (entry-zero (entry p i) && crossing-zero (crossing p i)) ≡ true =
+      (λ i l m. rw (le-ltb i (p .site .n) m) at (all-below-at 8 here (a .1) i l)) in
+      record {
+        some = leb-true _ _ (n .0);
+        count = few;
+        beat = leb-true _ _ (b .1);
+        entry-test = λ i l. and-both (entry-in (entry p i)) _ (in-use i l) .0;
+        used = λ i l. crossing-reads (entry p i) (crossing p i) (and-both (entry-in (entry p i)) _ (in-use i l) .1);
+        entry-past = λ i l m. and-both (entry-zero (entry p i)) _ (unused i l m) .0;
+        past = λ i l m. no-crossing-reads (crossing p i) (and-both (entry-zero (entry p i)) _ (unused i l m) .1);
+      }
+
+  pub plant-tests : PlantIn p → in-range p ≡ true
+  unfolding in-range place-in
+  plant-tests h =
+      and-intro (and-intro (and-intro (le-leb _ _ (h .some)) (le-leb _ _ (h .count))) (le-leb _ _ (h .beat)))
+      (all-below-intro 8 here (λ i l. by-cond (λ x. x ≡ true) (ltb i (p .site .n))
+      (λ q. let m : i < p .site .n = ltb-true _ _ q in and-intro (h .entry-test i m) (crossing-tests (entry p i) (crossing p i) (h .used i m)))
+      (λ q. let m : p .site .n ≤ i = ltb-false _ _ q in and-intro (h .entry-past i l m) (no-crossing-tests (crossing p i) (h .past i l m)))))
+
+-- the settings of a crossing in use
+pub entry-of : {p : Plant} → PlantIn p → (i : ℕ) → i < p .site .n → EntryIn (entry p i)
+entry-of {p} h i l = entry-reads (entry p i) (h .entry-test i l)

@@ -1,0 +1,249 @@
+-- A plant in range stays in range under every event.
+use mathlib.Core.Path.{_≡_, refl, sym, _∙_, ap, subst}
+use mathlib.Core.Bool.{Bool, true, false, cond, not, _&&_, _||_, true≢false, false≢true}
+use Prim.Native.Nat.{ℕ, suc, _+_, _-_, _%_, pred, _≤_, _<_}
+use native.Mathlib.Omega.{arith}
+use lib.Dec.{eqb, ltb, leb, lit<}
+use lib.ListN.{getD}
+use borrow.Author.Tests.{eqb-true, eqb-false, leb-true, ltb-true, ltb-false, le-leb, lt-ltb}
+use Rattle.machine.specs.Common.{tab, bit}
+use Rattle.machine.specs.Plant.{Entry, Crossing, Plant, release-ticks, overdue-ticks, full, calling, waiting, route, occupied, boom, lamp, trains, entry, crossing, no-crossing, dependent, boom-count, reason, booms-up}
+use Rattle.machine.specs.Range.{in-range, boom-in}
+use Rattle.machine.specs.Events.{Event, is, is-at, on-track, place-limit, value-limit, number}
+use Rattle.machine.specs.Effects.{calls, calling-after, waiting-after, cancels, act, releases, to-gap, phase-ticked, timer-ticked, tick}
+use Rattle.machine.specs.Settling.{phase-settled, timer-settled, out-settled, with-phase, settle}
+use Rattle.machine.specs.Step.{touch, apply, step}
+use Rattle.machine.proofs.Tools.{by-test, by-cond, and-both, getD-tab, each-tab}
+use Rattle.machine.proofs.Trains.{trains-after}
+use Rattle.machine.proofs.Taken.{Accepted, accepted, taken-tests, taken-crossing, taken-answer, refused-answer}
+use Rattle.machine.proofs.Ranges.{EntryIn, some-gap, Zero, TrackIn, TrackAt, PhaseIn, opened, warning, right, closed, raising, CrossingIn, NoCrossing, zero-kind, PlantIn, plant-reads, plant-tests, entry-of}
+
+-- Phase and timer ------------------------------------------------------------------------------------------------------------------
+-- a timer that does not run out yet
+still-runs : (timer : ℕ) → 1 ≤ timer → eqb timer 1 ≡ false → 1 ≤ pred timer
+still-runs timer l q = let d : timer ≡ 1 → ⊥ = eqb-false _ _ q in omega arith
+
+less : (n m : ℕ) → n ≤ m → pred n ≤ m
+less n m l = omega arith
+
+module _ (s : Entry) (g : EntryIn s) where
+  -- what a timer that runs out leads to
+  runs-out : (phase : ℕ) → PhaseIn s (cond (to-gap s phase) 2 3) (bit (to-gap s phase) (s .gap))
+  runs-out phase = by-test (to-gap s phase)
+      (λ q. let four = and-both (eqb phase 1) (eqb (s .kind) 4) q .1 in rw q (right refl four (some-gap g four) (omega arith)))
+      (λ q. rw q (closed refl refl))
+
+  phase-ticks : {phase timer : ℕ} → PhaseIn s phase timer → PhaseIn s (phase-ticked s phase timer) (timer-ticked s phase timer)
+  unfolding phase-ticked timer-ticked
+  phase-ticks (opened p z) = rw (p, z) (opened refl refl)
+  phase-ticks {phase} {timer} (warning p l h) = by-test (eqb timer 1)
+      (λ q. rw q (runs-out phase))
+      (λ q. rw q (warning p (still-runs timer l q) (less timer _ h)))
+  phase-ticks {phase} {timer} (right p four l h) = by-test (eqb timer 1)
+      (λ q. rw q (runs-out phase))
+      (λ q. rw q (right p four (still-runs timer l q) (less timer _ h)))
+  phase-ticks (closed p z) = rw (p, z) (closed refl refl)
+  phase-ticks (raising p z h) = rw (p, z) (raising refl refl h)
+
+  -- a settled phase and its timer, from phase `from`
+  abbrev Next : ℕ → ℕ → ℕ → Type 0
+  Next from timer next = PhaseIn s next (timer-settled (s .pre) from next timer)
+
+  -- open, or in warning with F, from another phase
+  restarts : (stands : Bool) (from timer : ℕ) → eqb 0 from ≡ false → eqb 1 from ≡ false → Next from timer (bit stands 1)
+  unfolding timer-settled
+  restarts true from timer a b = rw b (warning refl (g .some-pre) (omega arith))
+  restarts false from timer a b = rw a (opened refl refl)
+
+  -- 2 or 3: it stays while a reason stands
+  lowers : (stands : Bool) {from timer : ℕ} → eqb 0 from ≡ false → eqb 4 from ≡ false → eqb from from ≡ true → PhaseIn s from timer → Next from timer (cond stands from (cond (eqb (s .kind) 1) 0 4))
+  unfolding timer-settled
+  lowers true a b e h = rw e h
+  lowers false {from} {timer} a b e h = by-cond (Next from timer) (eqb (s .kind) 1)
+      (λ _. rw a (opened refl refl))
+      (λ q. let d : s .kind ≡ 1 → ⊥ = eqb-false _ _ q in let k = g .some-kind in rw b (raising refl refl (omega arith)))
+
+  phase-settles : (stands up : Bool) {phase timer : ℕ} → PhaseIn s phase timer → Next phase timer (phase-settled (s .kind) stands up phase)
+  unfolding phase-settled timer-settled
+  phase-settles true up (opened p z) = rw p (warning refl (g .some-pre) (omega arith))
+  phase-settles false up (opened p z) = rw (p, z) (opened refl refl)
+  phase-settles true up (warning p l h) = rw p (warning refl l h)
+  phase-settles false up (warning p l h) = rw p (opened refl refl)
+  phase-settles stands up (right p four l h) = rw p (lowers stands refl refl refl (right refl four l h))
+  phase-settles stands up (closed p z) = rw p (lowers stands refl refl refl (closed refl z))
+  phase-settles stands true {phase} {timer} (raising p z h) = rw p (restarts stands 4 timer refl refl)
+  phase-settles stands false (raising p z h) = rw p (raising refl z h)
+
+  -- One crossing ---------------------------------------------------------------------------------------------------------------------
+  out-law : (normal : Bool) (add out : ℕ) → add ≤ 1 → out-settled normal add out ≤ suc overdue-ticks
+  unfolding out-settled
+  out-law normal add out l = by-cond (λ x. x ≤ 901) normal (λ _. omega arith) (λ _. by-cond (λ x. x ≤ 901) (leb out 900) (λ t. omega (arith, leb-true)) (λ _. omega arith))
+
+  settles : (add : ℕ) (c : Crossing) → add ≤ 1 → CrossingIn s c → CrossingIn s (settle s add c)
+  unfolding settle
+  settles add c l h = record {
+    track = h .track;
+    boom = h .boom;
+    countdown = h .countdown;
+    phase = phase-settles (reason c) (booms-up (s .kind) (boom c)) (h .phase);
+    out = out-law _ add (c .out) l;
+  }
+
+  ticks : (c : Crossing) → CrossingIn s c → CrossingIn s (tick s c)
+  unfolding tick
+  ticks c h = record {
+    track = λ t l. let k = h .track t l in rw (getD-tab 4 (λ t. cond (releases c) 0 (calling c t)) 0 t l, getD-tab 4 (λ t. cond (releases c) 0 (waiting c t)) 0 t l) (cleared t (releases c) k);
+    boom = h .boom;
+    countdown = less (c .countdown) release-ticks (h .countdown);
+    phase = phase-ticks (h .phase);
+    out = h .out;
+  }
+    where
+      cleared : (t : ℕ) (b : Bool) {k w : ℕ} {r o : Bool} → TrackIn s t k w r o → TrackIn s t (cond b 0 k) (cond b 0 w) r o
+      cleared t true h = record { few = omega arith; plain = λ d. (refl, h .plain d .1); lacking = λ m. let z = h .lacking m in record { calling = refl; waiting = refl; route = z .route; occupied = z .occupied } }
+      cleared t false h = h
+
+  -- an event of codes 1 to 9 at its own crossing
+  module _ (n : ℕ) (c : Crossing) (e : Event) (a : Accepted n s c e) where
+    -- a code whose place is a track is at a track that the crossing has
+    elsewhere : (k t : ℕ) → on-track k ≡ true → s .tracks ≤ t → is-at k t e ≡ false
+    unfolding place-limit
+    elsewhere k t o m = by-test (is-at k t e)
+        (λ q.
+        let b = and-both (is k e) (eqb (e .place) t) q in
+        let at : e .place ≡ t = eqb-true _ _ (b .1) in
+        let l : e .place < s .tracks = rw (eqb-true (e .code) k (b .0), o) at (a .place) in
+        absurd (omega arith))
+        (λ q. q)
+
+    few : (t : ℕ) → trains c t ≤ full → calling-after s c e t + waiting-after s c e t ≤ full
+    few t f = by-test (is-at 1 t e)
+        (λ q. let r : trains c t < full = subst (λ u. trains c u < full) (eqb-true _ _ (and-both (is 1 e) (eqb (e .place) t) q .1)) (a .room (and-both (is 1 e) (eqb (e .place) t) q .0)) in
+        let m = rw q at after in omega arith)
+        (λ q. let m = rw q at after in omega arith)
+      where
+        after : calling-after s c e t + waiting-after s c e t + bit (is-at 2 t e) 1 ≡ trains c t + bit (is-at 1 t e) 1
+        after = trains-after s c e t (λ q. let b = and-both (is 2 e) (eqb (e .place) t) q in subst (λ u. 0 < trains c u) (eqb-true _ _ (b .1)) (a .there (b .0)))
+
+    plain-waits : (t : ℕ) → dependent s t ≡ false → waiting c t ≡ 0 → waiting-after s c e t ≡ 0
+    unfolding waiting-after
+    plain-waits t d z = rw d
+        (by-cond (λ x. x ≡ 0) (is-at 1 t e) (λ _. omega arith) (λ _.
+        by-cond (λ x. x ≡ 0) (is-at 2 t e) (λ _. omega arith) (λ _.
+        by-cond (λ x. x ≡ 0) (is-at 5 t e && eqb (e .value) 1) (λ _. refl) (λ _. z))))
+
+    plain-route : (t : ℕ) (r : Bool) → dependent s t ≡ false → r ≡ false → cond (is-at 5 t e) (eqb (e .value) 1) r ≡ false
+    plain-route t r d z = by-cond (λ x. x ≡ false) (is-at 5 t e)
+        (λ q. let b = and-both (is 5 e) (eqb (e .place) t) q in absurd (true≢false (sym (subst (λ u. dependent s u ≡ true) (eqb-true _ _ (b .1)) (a .routed (b .0))) ∙ d)))
+        (λ _. z)
+
+    track-acts : (t : ℕ) → TrackAt s c t → TrackIn s t (calling-after s c e t) (waiting-after s c e t) (cond (is-at 5 t e) (eqb (e .value) 1) (route c t)) (cond (is-at 6 t e) (eqb (e .value) 1) (occupied c t))
+    unfolding calling-after waiting-after
+    track-acts t h = record {
+      few = few t (h .few);
+      plain = λ d. (plain-waits t d (h .plain d .0), plain-route t (route c t) d (h .plain d .1));
+      lacking = λ m. let z = h .lacking m in rw (elsewhere 1 t refl m, elsewhere 2 t refl m, elsewhere 5 t refl m, elsewhere 6 t refl m) z;
+    }
+
+    boom-acts : (b : ℕ) → boom-in s c b ≡ true → leb (cond (is-at 8 b e) (e .value) (boom c b)) (cond (ltb b (boom-count (s .kind))) 2 0) ≡ true
+    unfolding place-limit value-limit
+    boom-acts b h = by-cond (λ x. leb x (cond (ltb b (boom-count (s .kind))) 2 0) ≡ true) (is-at 8 b e)
+        (λ q.
+        let k = and-both (is 8 e) (eqb (e .place) b) q in
+        let eight : e .code ≡ 8 = eqb-true _ _ (k .0) in
+        let at : e .place ≡ b = eqb-true _ _ (k .1) in
+        let l : b < boom-count (s .kind) = rw at at (rw eight at (a .place)) in
+        let v : e .value < 3 = rw eight at (a .value) in
+        rw (lt-ltb _ _ l) (le-leb (e .value) 2 (omega arith)))
+        (λ _. h)
+
+    acts : CrossingIn s c → CrossingIn s (act s c e)
+    unfolding act
+    acts h = record {
+      track = λ t l. rw (getD-tab 4 (calling-after s c e) 0 t l, getD-tab 4 (waiting-after s c e) 0 t l,
+        getD-tab 4 (λ t. cond (is-at 5 t e) (eqb (e .value) 1) (route c t)) false t l, getD-tab 4 (λ t. cond (is-at 6 t e) (eqb (e .value) 1) (occupied c t)) false t l)
+        (track-acts t (h .track t l));
+      boom = λ b l. rw (getD-tab 4 (λ b. cond (is-at 8 b e) (e .value) (boom c b)) 0 b l) (boom-acts b (h .boom b l));
+      countdown = by-cond (λ x. x ≤ release-ticks) (is 7 e) (λ _. omega arith) (λ _. by-cond (λ x. x ≤ release-ticks) (cancels e) (λ _. omega arith) (λ _. h .countdown));
+      phase = h .phase;
+      out = h .out;
+    }
+
+-- A record past the last crossing --------------------------------------------------------------------------------------------------
+module _ (s : Entry) (none : s .kind ≡ 0) where
+  zero-settles : (c : Crossing) → reason c ≡ false → NoCrossing c → NoCrossing (settle s 1 c)
+  unfolding settle phase-settled timer-settled out-settled booms-up
+  zero-settles c r h = record {
+    track = h .track;
+    boom = h .boom;
+    lamp = h .lamp;
+    kiosk = h .kiosk;
+    operator = h .operator;
+    countdown = h .countdown;
+    phase = rw (r, h .phase);
+    timer = rw (r, h .phase) (h .timer);
+    out = rw (r, h .phase, none);
+  }
+
+  zero-reason : (c : Crossing) → NoCrossing c → reason c ≡ false
+  unfolding reason
+  zero-reason c h = rw (h .kiosk, h .operator, h .track 0 (lit< tt) .calling, h .track 1 (lit< tt) .calling, h .track 2 (lit< tt) .calling, h .track 3 (lit< tt) .calling)
+
+  zero-ticks : (c : Crossing) → NoCrossing c → NoCrossing (tick s c)
+  unfolding tick phase-ticked timer-ticked
+  zero-ticks c h = record {
+    track = λ t l. let z = h .track t l in rw (getD-tab 4 (λ t. cond (releases c) 0 (calling c t)) 0 t l, getD-tab 4 (λ t. cond (releases c) 0 (waiting c t)) 0 t l, h .countdown) z;
+    boom = h .boom;
+    lamp = h .lamp;
+    kiosk = h .kiosk;
+    operator = h .operator;
+    countdown = rw (h .countdown);
+    phase = rw (h .timer) (h .phase);
+    timer = rw (h .timer);
+    out = h .out;
+  }
+
+  zero-touched : (c : Crossing) → NoCrossing c → NoCrossing (settle s 1 (tick s c))
+  zero-touched c h = let k = zero-ticks c h in zero-settles (tick s c) (zero-reason (tick s c) k) k
+
+-- The plant ------------------------------------------------------------------------------------------------------------------------
+touches-used : (p : Plant) (e : Event) (h : PlantIn p) → number p e ≡ 0 → (i : ℕ) → i < p .site .n → CrossingIn (entry p i) (touch (entry p i) i (crossing p i) e)
+unfolding touch
+touches-used p e h q i l =
+    let s = entry p i in
+    let c = crossing p i in
+    let g = entry-of h i l in
+    by-cond (CrossingIn s) (is 0 e)
+    (λ _. settles s g 1 (tick s c) (omega arith) (ticks s g c (h .used i l)))
+    (λ _. by-cond (CrossingIn s) (eqb (e .crossing) i)
+    (λ o. settles s g 0 (act s c e) (omega arith) (acts s g (p .site .n) c e
+        (subst (λ j. Accepted (p .site .n) (entry p j) (crossing p j) e) (eqb-true _ _ o) (accepted _ _ _ e (taken-tests p e q .1))) (h .used i l)))
+    (λ _. h .used i l))
+
+touches-past : (p : Plant) (e : Event) (h : PlantIn p) → number p e ≡ 0 → (i : ℕ) → i < 8 → p .site .n ≤ i → NoCrossing (touch (entry p i) i (crossing p i) e)
+unfolding touch
+touches-past p e h q i l m = by-cond NoCrossing (is 0 e)
+    (λ _. zero-touched (entry p i) (zero-kind (entry p i) (h .entry-past i l m)) (crossing p i) (h .past i l m))
+    (λ z. by-cond NoCrossing (eqb (e .crossing) i)
+    (λ o. let at : e .crossing ≡ i = eqb-true _ _ o in let b = taken-crossing p e q z in absurd (omega arith))
+    (λ _. h .past i l m))
+
+pub applied-in-range : (p : Plant) (e : Event) → number p e ≡ 0 → PlantIn p → PlantIn (apply p e)
+unfolding apply
+applied-in-range p e q h = record {
+  some = h .some;
+  count = h .count;
+  beat = by-cond (λ x. x ≤ 3) (is 0 e) (λ _. omega arith) (λ _. h .beat);
+  entry-test = h .entry-test;
+  used = λ i l. rw (at i (let n = h .count in omega arith)) (touches-used p e h q i l);
+  entry-past = h .entry-past;
+  past = λ i l m. rw (at i l) (touches-past p e h q i l m);
+}
+  where
+    at : (i : ℕ) → i < 8 → getD (tab 8 (λ j. touch (entry p j) j (crossing p j) e)) i no-crossing ≡ touch (entry p i) i (crossing p i) e
+    at i l = getD-tab 8 (λ j. touch (entry p j) j (crossing p j) e) no-crossing i l
+
+pub stays-in-range : (p : Plant) (e : Event) → in-range p ≡ true → in-range (step p e .plant) ≡ true
+stays-in-range p e h = by-test (eqb (number p e) 0)
+    (λ t. let q = eqb-true _ _ t in rw (taken-answer p e q) (plant-tests (apply p e) (applied-in-range p e q (plant-reads p h))))
+    (λ t. rw (refused-answer p e (eqb-false _ _ t)) h)
