@@ -3,3 +3,7 @@ pub mod Unbroken
 pub mod Timing
 pub mod Agree
 pub mod Account
+pub mod Each
+pub mod Run
+pub mod Shown
+pub mod Demand

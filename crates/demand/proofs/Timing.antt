@@ -24,6 +24,10 @@ to-come s phase timer = timer + bit (to-gap s phase) (s .gap)
 abbrev pub Timed : (ℕ → Type 0) → Entry → ℕ → ℕ → Type 0
 Timed S s phase timer = rests phase ≡ false → (n : ℕ) × S n × (needed s ≤ n + to-come s phase timer)
 
+-- with all ordered down no tick is to come
+pub all-down : (S : ℕ → Type 0) (s : Entry) (phase timer : ℕ) → Timed S s phase timer → phase ≡ 3 → timer ≡ 0 → (n : ℕ) × S n × (needed s ≤ n)
+all-down S s phase timer k p z = let u = (rw (p, z) at k) refl in (u .0, u .1, let b = u .2 in omega arith)
+
 -- A tick -------------------------------------------------------------------------------------------------------------------------
 module _ (s : Entry) (phase timer : ℕ) where
   -- takes at most one from the ticks to come
