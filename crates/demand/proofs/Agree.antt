@@ -1,13 +1,12 @@
 -- The record of a crossing agrees with the ledger, over a tick and over an event of its own.
 use mathlib.Core.Path.{_≡_, refl, ap}
-use mathlib.Core.Bool.{Bool, true, false, cond, not, _&&_, _||_}
+use mathlib.Core.Bool.{Bool, true, false, cond, not, _&&_}
 use mathlib.Core.List.{List, _∷_}
 use Prim.Native.Nat.{ℕ, zero, suc, _+_, _-_, pred, _<_}
 use native.Mathlib.Nat.{add-zero, sub-zero}
 use native.Mathlib.Omega.{arith}
 use lib.Dec.{eqb, lit<, eqb·suc-zero}
-use lib.ListN.{getD}
-use Rattle.machine.specs.Common.{tab, bit}
+use Rattle.machine.specs.Common.{bit}
 use Rattle.machine.specs.declared.Entry.{Entry}
 use Rattle.machine.specs.declared.Crossing.{Crossing}
 use Rattle.machine.specs.declared.Event.{Event}
@@ -16,7 +15,7 @@ use Rattle.machine.specs.Events.{is, is-at}
 use Rattle.machine.specs.Effects.{calls, calling-after, waiting-after, cancels, act, releases, tick}
 use Rattle.machine.specs.Settling.{settle}
 use Rattle.machine.proofs.Tools.{getD-tab, each-tab}
-use Rattle.demand.specs.Ledger.{last, boom-report, lamp-whole, kiosk-on, operator-on, route-set, countdown, Queue, joined, gone, queue, stands}
+use Rattle.demand.specs.Ledger.{last, boom-report, lamp-whole, kiosk-on, operator-on, route-set, countdown, Queue, empty, joined, gone, moved, queue, stands}
 
 abbrev pub queue-of : Crossing → ℕ → Queue
 queue-of c t = record { calling = calling c t; waiting = waiting c t }
@@ -41,8 +40,8 @@ queue-law : (b1 b2 b5 r : Bool) (c w : ℕ) →
       calling = cond b1 (c + bit r 1) (cond b2 (pred c) (cond b5 (c + w) c));
       waiting = cond b1 (w + bit (not r) 1) (cond b2 (w - bit (eqb c 0) 1) (cond b5 0 w));
     })
-    (let q : Queue = record { calling = c; waiting = w } in cond b1 (joined r q) (cond b2 (gone q) (cond b5 (record { calling = c + w; waiting = 0 }) q)))
-unfolding joined gone
+    (let q : Queue = record { calling = c; waiting = w } in cond b1 (joined r q) (cond b2 (gone q) (cond b5 (moved q) q)))
+unfolding joined gone moved
 queue-law true b2 b5 true c w = rw add-zero
 queue-law true b2 b5 false c w = rw add-zero
 queue-law false true b5 r zero w = let z : w - 1 ≡ pred w = omega arith in rw z
@@ -76,7 +75,7 @@ module _ {s : Entry} {c : Crossing} {h : List Event} (a : Agree s c h) (e : Even
     unfolding tick queue
     tick-queue t b = rw (getD-tab 4 (λ t. cond (releases c) 0 (calling c t)) 0 t b, getD-tab 4 (λ t. cond (releases c) 0 (waiting c t)) 0 t b, z, ← a .queue t b, ← a .countdown) (both (releases c))
       where
-        both : (r : Bool) → _≡_ {A = Queue} (record { calling = cond r 0 (calling c t); waiting = cond r 0 (waiting c t) }) (cond r (record { calling = 0; waiting = 0 }) (queue-of c t))
+        both : (r : Bool) → _≡_ {A = Queue} (record { calling = cond r 0 (calling c t); waiting = cond r 0 (waiting c t) }) (cond r empty (queue-of c t))
         both true = refl
         both false = refl
 

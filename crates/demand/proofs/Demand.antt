@@ -13,18 +13,17 @@ use Rattle.machine.specs.declared.Site.{Site}
 use Rattle.machine.specs.declared.Crossing.{Crossing}
 use Rattle.machine.specs.declared.Plant.{Plant}
 use Rattle.machine.specs.declared.Event.{Event}
-use Rattle.machine.specs.Plant.{boom, lamp, entry, crossing, no-entry, no-crossing, fresh-crossing, fresh-plant, boom-count, each-boom, reason, booms-up, booms-closed, secured}
-use Rattle.machine.specs.Range.{in-range}
+use Rattle.machine.specs.Plant.{boom, lamp, entry, crossing, no-entry, no-crossing, fresh-crossing, fresh-plant, boom-count, each-boom, booms-up, booms-closed, secured}
 use Rattle.machine.specs.Effects.{tick}
 use Rattle.machine.specs.Settling.{settle}
 use Rattle.machine.specs.Step.{touch, step, after}
 use Rattle.machine.specs.Panel.{row}
-use Rattle.machine.specs.SiteBook.{book-site, read-number, read}
+use Rattle.machine.specs.SiteBook.{read}
 use Rattle.machine.proofs.Tools.{by-test, and-both, all-below-same, getD-tab}
 use Rattle.machine.proofs.Ranges.{PlantIn, plant-reads}
-use Rattle.machine.proofs.Laws.{read-plant, fresh-in-range, panel-at}
+use Rattle.machine.proofs.Laws.{fresh-in-range, panel-at}
 use Rattle.demand.specs.Ledger.{log, boom-report}
-use Rattle.demand.specs.Demand.{stands-after, Unbroken, needed, shown, a-tick, Closed, Opens, Kept, Demand-3, Demand}
+use Rattle.demand.specs.Demand.{stands-after, Unbroken, needed, shown, a-tick, Closed, Kept, Demand}
 use Rattle.demand.proofs.Unbroken.{stands-now, at-least}
 use Rattle.demand.proofs.Timing.{rests, all-down}
 use Rattle.demand.proofs.Agree.{reason-stands}

@@ -1,20 +1,19 @@
 -- The invariant of one crossing, and one more event.
-use mathlib.Core.Path.{_≡_, refl, sym, _∙_, ap}
-use mathlib.Core.Bool.{Bool, true, false, cond, _&&_, _||_, false≢true}
+use mathlib.Core.Path.{_≡_, refl, sym, _∙_}
+use mathlib.Core.Bool.{Bool, true, false, _||_, false≢true}
 use mathlib.Core.List.{List, [], _∷_, _++_}
-use Prim.Native.Nat.{ℕ, suc, _+_, _≤_, _<_}
+use Prim.Native.Nat.{ℕ, suc, _+_, _≤_}
 use native.Mathlib.Omega.{arith}
 use native.Mathlib.Nat.{zero-add}
 use lib.Dec.{eqb}
 use borrow.Author.Tests.{eqb-true}
-use Rattle.machine.specs.Common.{bit}
 use Rattle.machine.specs.declared.Entry.{Entry}
 use Rattle.machine.specs.declared.Crossing.{Crossing}
 use Rattle.machine.specs.declared.Plant.{Plant}
 use Rattle.machine.specs.declared.Event.{Event}
-use Rattle.machine.specs.Plant.{trains, total, boom, entry, reason, booms-up, fresh-crossing}
+use Rattle.machine.specs.Plant.{boom, entry, reason, booms-up, fresh-crossing}
 use Rattle.machine.specs.Events.{is, place-limit}
-use Rattle.machine.specs.Effects.{act, tick, written-at, releases}
+use Rattle.machine.specs.Effects.{act, tick, written-at}
 use Rattle.machine.specs.Settling.{settle}
 use Rattle.machine.specs.Step.{after, touch}
 use Rattle.machine.proofs.Tools.{by-test, by-cond, or-false, below4}

@@ -1,23 +1,20 @@
 -- What holds after every list of events, by induction over the list.
 use mathlib.Core.Path.{_≡_, refl, sym, _∙_, ap, subst}
-use mathlib.Core.Bool.{Bool, true, false, cond, _&&_}
+use mathlib.Core.Bool.{true, false}
 use mathlib.Core.List.{List, [], _∷_, _++_}
 use Prim.Native.Nat.{ℕ, zero, suc, _+_, _≤_, _<_}
 use native.Mathlib.Omega.{arith}
 use native.Mathlib.Nat.{add-zero}
-use lib.Dec.{eqb, ltb}
+use lib.Dec.{eqb}
 use lib.ListN.{getD}
-use borrow.Author.Tests.{eqb-true, eqb-false, eq-eqb, lt-ltb}
-use Rattle.machine.specs.Common.{tab, sum-below}
-use Rattle.machine.specs.declared.Site.{Site}
-use Rattle.machine.specs.declared.Crossing.{Crossing}
+use borrow.Author.Tests.{eqb-true, eqb-false, eq-eqb}
+use Rattle.machine.specs.Common.{sum-below}
 use Rattle.machine.specs.declared.Plant.{Plant}
 use Rattle.machine.specs.declared.Event.{Event}
-use Rattle.machine.specs.declared.Answer.{Answer}
-use Rattle.machine.specs.Plant.{entry, crossing, no-entry, no-crossing, fresh-crossing, fresh-plant}
+use Rattle.machine.specs.Plant.{entry, crossing, no-entry, no-crossing, fresh-crossing}
 use Rattle.machine.specs.Range.{in-range}
-use Rattle.machine.specs.Events.{is, place-limit, value-limit, refusal, number}
-use Rattle.machine.specs.Effects.{written-at, releases}
+use Rattle.machine.specs.Events.{place-limit, value-limit, refusal, number}
+use Rattle.machine.specs.Effects.{written-at}
 use Rattle.machine.specs.Step.{touch, apply, written, step, after, carried}
 use Rattle.machine.proofs.Tools.{by-test, and-false, getD-tab, sum-add, sum-same}
 use Rattle.machine.proofs.Taken.{taken-answer, refused-answer, answer-number, Accepted, accepted, taken-tests}
