@@ -77,7 +77,7 @@ module _ (s : Entry) (g : EntryIn s) where
   -- One crossing ---------------------------------------------------------------------------------------------------------------------
   out-law : (normal : Bool) (add out : ℕ) → add ≤ 1 → out-settled normal add out ≤ suc overdue-ticks
   unfolding out-settled
-  out-law normal add out l = by-cond (λ x. x ≤ 901) normal (λ _. omega arith) (λ _. by-cond (λ x. x ≤ 901) (leb out 900) (λ t. omega (arith, leb-true)) (λ _. omega arith))
+  out-law normal add out l = by-cond (λ x. x ≤ suc overdue-ticks) normal (λ _. omega arith) (λ _. by-cond (λ x. x ≤ suc overdue-ticks) (leb out overdue-ticks) (λ t. omega (arith, leb-true)) (λ _. omega arith))
 
   settles : (add : ℕ) (c : Crossing) → add ≤ 1 → CrossingIn s c → CrossingIn s (settle s add c)
   unfolding settle
@@ -160,9 +160,13 @@ module _ (s : Entry) (g : EntryIn s) where
     acts : CrossingIn s c → CrossingIn s (act s c e)
     unfolding act
     acts h = record {
-      track = λ t l. rw (getD-tab 4 (calling-after s c e) 0 t l, getD-tab 4 (waiting-after s c e) 0 t l,
-        getD-tab 4 (λ t. cond (is-at 5 t e) (eqb (e .value) 1) (route c t)) false t l, getD-tab 4 (λ t. cond (is-at 6 t e) (eqb (e .value) 1) (occupied c t)) false t l)
-        (track-acts t (h .track t l));
+      track = λ t l. rw (
+        getD-tab 4 (calling-after s c e) 0 t l,
+        getD-tab 4 (waiting-after s c e) 0 t l,
+        getD-tab 4 (λ t. cond (is-at 5 t e) (eqb (e .value) 1) (route c t)) false t l,
+        getD-tab 4 (λ t. cond (is-at 6 t e) (eqb (e .value) 1) (occupied c t)) false t l,
+      )
+          (track-acts t (h .track t l));
       boom = λ b l. rw (getD-tab 4 (λ b. cond (is-at 8 b e) (e .value) (boom c b)) 0 b l) (boom-acts b (h .boom b l));
       countdown = by-cond (λ x. x ≤ release-ticks) (is 7 e) (λ _. omega arith) (λ _. by-cond (λ x. x ≤ release-ticks) (cancels e) (λ _. omega arith) (λ _. h .countdown));
       phase = h .phase;
@@ -217,7 +221,7 @@ touches-used p e h q i l =
     (λ _. settles s g 1 (tick s c) (omega arith) (ticks s g c (h .used i l)))
     (λ _. by-cond (CrossingIn s) (eqb (e .crossing) i)
     (λ o. settles s g 0 (act s c e) (omega arith) (acts s g (p .site .n) c e
-        (subst (λ j. Accepted (p .site .n) (entry p j) (crossing p j) e) (eqb-true _ _ o) (accepted _ _ _ e (taken-tests p e q .1))) (h .used i l)))
+    (subst (λ j. Accepted (p .site .n) (entry p j) (crossing p j) e) (eqb-true _ _ o) (accepted _ _ _ e (taken-tests p e q .1))) (h .used i l)))
     (λ _. h .used i l))
 
 touches-past : (p : Plant) (e : Event) (h : PlantIn p) → number p e ≡ 0 → (i : ℕ) → i < 8 → p .site .n ≤ i → NoCrossing (touch (entry p i) i (crossing p i) e)
