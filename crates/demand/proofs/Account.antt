@@ -11,7 +11,7 @@ use Rattle.machine.specs.declared.Entry.{Entry}
 use Rattle.machine.specs.declared.Crossing.{Crossing}
 use Rattle.machine.specs.declared.Event.{Event}
 use Rattle.machine.specs.Plant.{calling, waiting, trains, total}
-use Rattle.machine.specs.Events.{is, is-at}
+use Rattle.machine.specs.Events.{is, is-at, on-track}
 use Rattle.machine.specs.Effects.{calling-after, waiting-after, act, releases, tick, written-at}
 use Rattle.machine.specs.Settling.{settle}
 use Rattle.machine.proofs.Tools.{below4, and-both}
@@ -41,11 +41,11 @@ module _ {s : Entry} {c : Crossing} {h : List Event} (a : Agree s c h) (e : Even
       same : ledger.trains s h ≡ total c
       same = omega (arith, at 0 (lit< tt), at 1 (lit< tt), at 2 (lit< tt), at 3 (lit< tt))
 
-  -- an event of this crossing, with a track and a train where its code asks for them
-  module _ (not-tick : is 0 e ≡ false) (struck : is 1 e ≡ true → e .place < 4) (passes : is 2 e ≡ true → e .place < 4) (there : is 2 e ≡ true → 0 < trains c (e .place)) where
+  -- an event of this crossing: at a track where its code asks for one, and a passage of a train that is there
+  module _ (not-tick : is 0 e ≡ false) (placed : (k : ℕ) → on-track k ≡ true → is k e ≡ true → e .place < 4) (there : is 2 e ≡ true → 0 < trains c (e .place)) where
     own-total : total (act s c e) + bit (is 2 e) 1 ≡ total c + bit (is 1 e) 1
     unfolding act
-    own-total = omega (arith, at 0, at 1, at 2, at 3, one-hot (is 1 e) (e .place) struck, one-hot (is 2 e) (e .place) passes)
+    own-total = omega (arith, at 0, at 1, at 2, at 3, one-hot (is 1 e) (e .place) (placed 1 refl), one-hot (is 2 e) (e .place) (placed 2 refl))
       where
         at : (t : ℕ) → calling-after s c e t + waiting-after s c e t + bit (is-at 2 t e) 1 ≡ trains c t + bit (is-at 1 t e) 1
         at t = trains-after s c e t (λ q. let b = and-both (is 2 e) (eqb (e .place) t) q in subst (λ u. 0 < trains c u) (eqb-true _ _ (b .1)) (there (b .0)))

@@ -28,7 +28,8 @@ use Rattle.demand.proofs.Unbroken.{stands-now, at-least}
 use Rattle.demand.proofs.Timing.{rests, all-down}
 use Rattle.demand.proofs.Agree.{reason-stands}
 use Rattle.demand.proofs.Each.{Holds, no-timer}
-use Rattle.demand.proofs.Run.{Sound, sound, taken-crossing, taken-site, tick-taken}
+use Rattle.demand.proofs.Answers.{taken-crossing, taken-site, tick-taken}
+use Rattle.demand.proofs.Run.{Sound, sound}
 use Rattle.demand.proofs.Shown.{passable-secured, released-secured, right-up, left-up, opened, normal-bit}
 
 -- One crossing ---------------------------------------------------------------------------------------------------------------------

@@ -2,7 +2,7 @@
 use mathlib.Core.Path.{_≡_, refl, sym, _∙_}
 use mathlib.Core.Bool.{Bool, true, false, _||_, false≢true}
 use mathlib.Core.List.{List, [], _∷_, _++_}
-use Prim.Native.Nat.{ℕ, suc, _+_, _≤_}
+use Prim.Native.Nat.{ℕ, suc, _+_, _≤_, _<_}
 use native.Mathlib.Omega.{arith}
 use native.Mathlib.Nat.{zero-add}
 use lib.Dec.{eqb}
@@ -27,7 +27,7 @@ use Rattle.demand.proofs.Timing.{rests, Timed, timed-tick, timed-settle
 use Rattle.demand.proofs.Agree.{Agree, own-agree, tick-agree, reason-stands}
 use Rattle.demand.proofs.Account.{Even, own-even, tick-even, written-more}
 
--- crossing i of the plant p holds the record c after the list es
+-- what holds of crossing i, whose record is c after the list es from the plant p
 pub record Holds (p : Plant) (es : List Event) (i : ℕ) (c : Crossing) : Type 0 where
   pub agree : Agree (entry p i) c (log p i es)
   pub timed : Timed (λ n. Unbroken p i n es) (entry p i) (c .phase) (c .timer)
@@ -36,7 +36,15 @@ pub record Holds (p : Plant) (es : List Event) (i : ℕ) (c : Crossing) : Type 0
 pub fresh-holds : (p : Plant) (i : ℕ) → Holds p [] i (fresh-crossing true)
 unfolding log last countdown queue count written-off
 fresh-holds p i = record {
-  agree = record { kiosk = refl; operator = refl; countdown = refl; route = below4 _ refl refl refl refl; queue = below4 _ refl refl refl refl; boom = below4 _ refl refl refl refl; red = refl };
+  agree = record {
+    kiosk = refl;
+    operator = refl;
+    countdown = refl;
+    route = below4 _ refl refl refl refl;
+    queue = below4 _ refl refl refl refl;
+    boom = below4 _ refl refl refl refl;
+    red = refl;
+  };
   timed = λ q. absurd (false≢true (sym q));
   even = refl;
 }
@@ -97,7 +105,7 @@ module _ (p : Plant) (es : List Event) (e : Event) (i : ℕ) (c : Crossing) (k :
     pub acted : {n : ℕ} → is 0 e ≡ false → s .tracks ≤ 4 → Accepted n s c e → Holds p more i (settle s 0 (act s c e))
     unfolding act place-limit
     acted nt few a = settled 0 (act s c e) (own-agree (k .agree) e nt)
-        (own-even (k .agree) e nt (λ q. let b = rw (eqb-true (e .code) 1 q) at (a .place) in omega arith) (λ q. let b = rw (eqb-true (e .code) 2 q) at (a .place) in omega arith) (a .there) (k .even))
+        (own-even (k .agree) e nt (λ j on q. let b : e .place < s .tracks = rw (eqb-true (e .code) j q, on) at (a .place) in omega arith) (a .there) (k .even))
         (λ st q. let u = k .timed q in (u .0, goes-on p i (u .0) es e (u .1) st (omega arith), u .2))
 
   -- a taken event, of any crossing

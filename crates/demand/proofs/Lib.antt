@@ -4,6 +4,7 @@ pub mod Timing
 pub mod Agree
 pub mod Account
 pub mod Each
+pub mod Answers
 pub mod Run
 pub mod Shown
 pub mod Demand
