@@ -1,0 +1,53 @@
+use borrow.Author.Tests.{eq-eqb, ne-eqb}
+use Rattle.machine.specs.SiteBook.{read}
+use borrow.Author.Needs.{needs}
+use Rattle.book.proofs.read.Statement.{statement}
+use Rattle.book.proofs.read.Tie as tie
+use Rattle.book.proofs.read.Reads as reads
+use Rattle.book.proofs.read.Lts as lts
+use Rattle.book.proofs.book_site.Reads as book-site-reads
+use Rattle.book.proofs.no_site.Reads as no-site-reads
+use Rattle.book.proofs.read_number.Reads as read-number-reads
+use Rattle.machine.proofs.Plant.fresh.Reads as fresh-reads
+
+-- src/lib.rt:155:9
+read-number-requires : tie.Need-read-number-requires
+read-number-requires c κs = search needs
+
+-- src/lib.rt:157:13
+book-site-requires : tie.Need-book-site-requires
+book-site-requires c κs = search needs
+
+-- src/lib.rt:158:13
+fresh-requires : tie.Need-fresh-requires
+fresh-requires c κs = search needs
+
+-- src/lib.rt:159:9
+returns : tie.Need-returns
+unfolding read
+returns c = simp (c .fresh .ensures, c .before .book-site .ensures, eq-eqb _ _ (c .before .before .if1 .taken), c .before .before .before .read-number .ensures)
+
+-- src/lib.rt:161:9
+no-site-requires : tie.Need-no-site-requires
+no-site-requires c κs = search needs
+
+-- src/lib.rt:162:9
+fresh-requires-2 : tie.Need-fresh-requires-2
+fresh-requires-2 c κs = search needs
+
+-- src/lib.rt:152:1
+returns-2 : tie.Need-returns-2
+unfolding read
+returns-2 c = simp (c .fresh2 .ensures, c .before .no-site .ensures, ne-eqb _ _ (c .before .before .if1 .left), c .before .before .before .read-number .ensures)
+
+pub read-spec : {M : Type 1} → statement M
+read-spec =
+    tie.close
+    (tie.spec
+    read-number-requires
+    book-site-requires
+    fresh-requires
+    returns
+    no-site-requires
+    fresh-requires-2
+    returns-2)

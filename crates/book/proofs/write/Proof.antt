@@ -1,0 +1,40 @@
+use borrow.Author.Tests.{eq-eqb, ne-eqb}
+use Rattle.machine.specs.SiteBook.{write-number}
+use borrow.Author.Needs.{needs}
+use Rattle.book.proofs.write.Statement.{statement}
+use Rattle.book.proofs.write.Tie as tie
+use Rattle.book.proofs.write.Reads as reads
+use Rattle.book.proofs.write.Lts as lts
+use Rattle.book.proofs.put_book.Reads as put-book-reads
+use Rattle.book.proofs.write_number.Reads as write-number-reads
+
+-- src/lib.rt:289:9
+write-number-requires : tie.Need-write-number-requires
+write-number-requires c κs = search needs
+
+-- src/lib.rt:291:9
+put-book-requires : tie.Need-put-book-requires
+put-book-requires c κs = search needs
+
+-- src/lib.rt:292:9
+same-length : tie.Need-same-length
+same-length c = search needs
+
+-- src/lib.rt:292:9
+returns : tie.Need-returns
+unfolding write-number
+returns c = (simp (c .before .before .put-book .ensures, eq-eqb _ _ (c .before .before .before .before .if1 .taken), c .before .before .before .before .before .write-number .ensures), search needs)
+
+-- src/lib.rt:285:1
+same-length-2 : tie.Need-same-length-2
+same-length-2 c = search needs
+
+-- src/lib.rt:285:1
+returns-2 : tie.Need-returns-2
+unfolding write-number
+returns-2 c = (simp (ne-eqb _ _ (c .if1 .left), c .before .write-number .ensures), search needs)
+
+pub write-spec : {M : Type 1} → statement M
+write-spec =
+    tie.close
+    (tie.spec write-number-requires put-book-requires same-length returns same-length-2 returns-2)

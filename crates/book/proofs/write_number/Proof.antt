@@ -1,0 +1,63 @@
+use borrow.Author.Tests.{eq-eqb, ne-eqb}
+use Rattle.machine.specs.SiteBook.{write-number}
+use borrow.Author.Needs.{needs}
+use Rattle.book.proofs.write_number.Statement.{statement}
+use Rattle.book.proofs.write_number.Tie as tie
+use Rattle.book.proofs.write_number.Reads as reads
+use Rattle.book.proofs.write_number.Lts as lts
+use Rattle.book.proofs.settings_in.Reads as settings-in-reads
+use Rattle.plant.proofs.count_in.Reads as count-in-reads
+
+-- src/lib.rt:200:8
+count-in-requires : tie.Need-count-in-requires
+count-in-requires c κs = search needs
+
+-- src/lib.rt:201:12
+settings-in-requires : tie.Need-settings-in-requires
+settings-in-requires c κs = search needs
+
+-- src/lib.rt:202:25
+cast-count : tie.Need-cast-count
+cast-count c = search needs
+
+-- src/lib.rt:203:33
+mul-if3 : tie.Need-mul-if3
+mul-if3 c = search needs
+
+-- src/lib.rt:203:29
+add-if3 : tie.Need-add-if3
+add-if3 c = search needs
+
+-- src/lib.rt:204:17
+returns : tie.Need-returns
+unfolding write-number
+returns c = simp (eq-eqb _ _ (c .if3 .taken), c .before .if2 .taken, c .before .before .settings-in .ensures, c .before .before .before .if1 .taken, c .before .before .before .before .count-in .ensures)
+
+-- src/lib.rt:206:13
+returns-2 : tie.Need-returns-2
+unfolding write-number
+returns-2 c = simp (ne-eqb _ _ (c .if3 .left), c .before .if2 .taken, c .before .before .settings-in .ensures, c .before .before .before .if1 .taken, c .before .before .before .before .count-in .ensures)
+
+-- src/lib.rt:208:9
+returns-3 : tie.Need-returns-3
+unfolding write-number
+returns-3 c = simp (c .if2 .left, c .before .settings-in .ensures, c .before .before .if1 .taken, c .before .before .before .count-in .ensures)
+
+-- src/lib.rt:196:1
+returns-4 : tie.Need-returns-4
+unfolding write-number
+returns-4 c = simp (c .if1 .left, c .before .count-in .ensures)
+
+pub write-number-spec : {M : Type 1} → statement M
+write-number-spec =
+    tie.close
+    (tie.spec
+    count-in-requires
+    settings-in-requires
+    cast-count
+    mul-if3
+    add-if3
+    returns
+    returns-2
+    returns-3
+    returns-4)
