@@ -1,3 +1,7 @@
+use mathlib.Core.Path.{_≡_, sym, _∙_}
+use Rattle.machine.specs.SiteBook.{book-size, read-number}
+use Rattle.machine.proofs.Laws.{book-reads}
+use Rattle.book.proofs.Accepted.{few}
 use borrow.Author.Tests.{eq-eqb, ne-eqb}
 use Rattle.machine.specs.SiteBook.{read}
 use borrow.Author.Needs.{needs}
@@ -16,7 +20,10 @@ read-number-requires c κs = search needs
 
 -- src/lib.rt:157:13
 book-site-requires : tie.Need-book-site-requires
-book-site-requires c κs = search needs
+book-site-requires c κs =
+    let b = c .before .before .before .args .b .now in
+    let h = book-reads b (sym (c .before .read-number .ensures) ∙ c .if1 .taken) in
+    (h .size, few (book-size b) (h .count))
 
 -- src/lib.rt:158:13
 fresh-requires : tie.Need-fresh-requires
@@ -25,7 +32,9 @@ fresh-requires c κs = search needs
 -- src/lib.rt:159:9
 returns : tie.Need-returns
 unfolding read
-returns c = simp (c .fresh .ensures, c .before .book-site .ensures, eq-eqb _ _ (c .before .before .if1 .taken), c .before .before .before .read-number .ensures)
+returns c =
+    let q : read-number (c .before .before .before .before .before .args .b .now) ≡ 0 = sym (c .before .before .before .read-number .ensures) ∙ c .before .before .if1 .taken in
+    simp (c .fresh .ensures, c .before .book-site .ensures, q)
 
 -- src/lib.rt:161:9
 no-site-requires : tie.Need-no-site-requires
@@ -38,7 +47,9 @@ fresh-requires-2 c κs = search needs
 -- src/lib.rt:152:1
 returns-2 : tie.Need-returns-2
 unfolding read
-returns-2 c = simp (c .fresh2 .ensures, c .before .no-site .ensures, ne-eqb _ _ (c .before .before .if1 .left), c .before .before .before .read-number .ensures)
+returns-2 c =
+    let e = c .before .before .before .read-number .ensures in
+    simp (c .fresh2 .ensures, c .before .no-site .ensures, ne-eqb _ _ (λ z. c .before .before .if1 .left (e ∙ z)), e)
 
 pub read-spec : {M : Type 1} → statement M
 read-spec =

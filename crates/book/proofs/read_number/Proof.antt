@@ -1,3 +1,11 @@
+use mathlib.Core.Path.{_≡_, sym, _∙_}
+use mathlib.Core.Bool.{true, false}
+use native.Mathlib.Omega.{arith}
+use lib.Dec.{eqb}
+use lib.ListN.{length}
+use Rattle.machine.specs.Common.{all-below}
+use Rattle.machine.specs.Range.{count-in, entry-in}
+use Rattle.machine.specs.SiteBook.{book-entry, book-length, book-size}
 use borrow.Author.Tests.{eq-eqb, ne-eqb}
 use Rattle.machine.specs.SiteBook.{read-number}
 use borrow.Author.Needs.{needs}
@@ -23,15 +31,15 @@ count-in-requires c κs = search needs
 
 -- src/lib.rt:99:17
 cast-n : tie.Need-cast-n
-cast-n c = search needs
+cast-n c = omega (arith, c .before .before .shared-slice-known2 .given 0)
 
 -- src/lib.rt:100:27
 mul-if3 : tie.Need-mul-if3
-mul-if3 c = search needs
+mul-if3 c = omega (arith, c .before .before .shared-slice-known2 .given 0)
 
 -- src/lib.rt:100:23
 add-if3 : tie.Need-add-if3
-add-if3 c = search needs
+add-if3 c = omega (arith, c .before .before .shared-slice-known2 .given 0)
 
 -- src/lib.rt:101:16
 entries-in-requires : tie.Need-entries-in-requires
@@ -40,22 +48,43 @@ entries-in-requires c κs = search needs
 -- src/lib.rt:102:17
 returns-2 : tie.Need-returns-2
 unfolding read-number
-returns-2 c = simp (c .if4 .taken, c .before .entries-in .ensures, eq-eqb _ _ (c .before .before .if3 .taken), c .before .before .before .if2 .taken, c .before .before .before .before .count-in .ensures, ne-eqb _ _ (c .before .before .before .before .before .before .if1 .left))
+returns-2 c =
+    let b = c .before .before .before .before .before .before .before .before .args .b .now in
+    let z : eqb (length b) 0 ≡ false = ne-eqb _ _ (c .before .before .before .before .before .before .if1 .left) in
+    let n : count-in (book-size b) ≡ true = sym (c .before .before .before .before .count-in .ensures) ∙ c .before .before .before .if2 .taken in
+    let l : eqb (length b) (book-length (book-size b)) ≡ true = eq-eqb _ _ (c .before .before .if3 .taken) in
+    let t : all-below (book-size b) (λ i. entry-in (book-entry b i)) ≡ true = sym (c .before .entries-in .ensures) ∙ c .if4 .taken in
+    rw (z, n, l, t)
 
 -- src/lib.rt:104:13
 returns-3 : tie.Need-returns-3
 unfolding read-number
-returns-3 c = simp (c .if4 .left, c .before .entries-in .ensures, eq-eqb _ _ (c .before .before .if3 .taken), c .before .before .before .if2 .taken, c .before .before .before .before .count-in .ensures, ne-eqb _ _ (c .before .before .before .before .before .before .if1 .left))
+returns-3 c =
+    let b = c .before .before .before .before .before .before .before .before .args .b .now in
+    let z : eqb (length b) 0 ≡ false = ne-eqb _ _ (c .before .before .before .before .before .before .if1 .left) in
+    let n : count-in (book-size b) ≡ true = sym (c .before .before .before .before .count-in .ensures) ∙ c .before .before .before .if2 .taken in
+    let l : eqb (length b) (book-length (book-size b)) ≡ true = eq-eqb _ _ (c .before .before .if3 .taken) in
+    let t : all-below (book-size b) (λ i. entry-in (book-entry b i)) ≡ false = sym (c .before .entries-in .ensures) ∙ c .if4 .left in
+    rw (z, n, l, t)
 
 -- src/lib.rt:106:9
 returns-4 : tie.Need-returns-4
 unfolding read-number
-returns-4 c = simp (ne-eqb _ _ (c .if3 .left), c .before .if2 .taken, c .before .before .count-in .ensures, ne-eqb _ _ (c .before .before .before .before .if1 .left))
+returns-4 c =
+    let b = c .before .before .before .before .before .before .args .b .now in
+    let z : eqb (length b) 0 ≡ false = ne-eqb _ _ (c .before .before .before .before .if1 .left) in
+    let n : count-in (book-size b) ≡ true = sym (c .before .before .count-in .ensures) ∙ c .before .if2 .taken in
+    let l : eqb (length b) (book-length (book-size b)) ≡ false = ne-eqb _ _ (c .if3 .left) in
+    rw (z, n, l)
 
 -- src/lib.rt:91:1
 returns-5 : tie.Need-returns-5
 unfolding read-number
-returns-5 c = simp (c .if2 .left, c .before .count-in .ensures, ne-eqb _ _ (c .before .before .before .if1 .left))
+returns-5 c =
+    let b = c .before .before .before .before .before .args .b .now in
+    let z : eqb (length b) 0 ≡ false = ne-eqb _ _ (c .before .before .before .if1 .left) in
+    let n : count-in (book-size b) ≡ false = sym (c .before .count-in .ensures) ∙ c .if2 .left in
+    rw (z, n)
 
 pub read-number-spec : {M : Type 1} → statement M
 read-number-spec =

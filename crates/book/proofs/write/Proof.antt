@@ -1,3 +1,5 @@
+use mathlib.Core.Path.{sym, _∙_}
+use Rattle.book.proofs.Accepted.{few, write-reads, written-taken, written-refused}
 use borrow.Author.Tests.{eq-eqb, ne-eqb}
 use Rattle.machine.specs.SiteBook.{write-number}
 use borrow.Author.Needs.{needs}
@@ -14,7 +16,10 @@ write-number-requires c κs = search needs
 
 -- src/lib.rt:291:9
 put-book-requires : tie.Need-put-book-requires
-put-book-requires c κs = search needs
+put-book-requires c κs =
+    let s = c .before .before .before .before .before .args .s in
+    let h = write-reads s (c .before .before .before .before .before .args .out .now) (sym (c .before .before .write-number .ensures) ∙ c .before .if1 .taken) in
+    (few (s .n) (h .count), h .size)
 
 -- src/lib.rt:292:9
 same-length : tie.Need-same-length
@@ -22,8 +27,10 @@ same-length c = search needs
 
 -- src/lib.rt:292:9
 returns : tie.Need-returns
-unfolding write-number
-returns c = (simp (c .before .before .put-book .ensures, eq-eqb _ _ (c .before .before .before .before .if1 .taken), c .before .before .before .before .before .write-number .ensures), search needs)
+returns c =
+    let e = c .before .before .before .before .before .write-number .ensures in
+    let z = c .before .before .before .before .if1 .taken in
+    (sym z ∙ e, c .before .before .put-book .ensures ∙ sym (written-taken _ _ (sym e ∙ z)))
 
 -- src/lib.rt:285:1
 same-length-2 : tie.Need-same-length-2
@@ -31,8 +38,9 @@ same-length-2 c = search needs
 
 -- src/lib.rt:285:1
 returns-2 : tie.Need-returns-2
-unfolding write-number
-returns-2 c = (simp (ne-eqb _ _ (c .if1 .left), c .before .write-number .ensures), search needs)
+returns-2 c =
+    let e = c .before .write-number .ensures in
+    (e, sym (written-refused _ _ (λ z. c .if1 .left (e ∙ z))))
 
 pub write-spec : {M : Type 1} → statement M
 write-spec =

@@ -1,3 +1,10 @@
+use mathlib.Core.Path.{_≡_, sym, _∙_}
+use mathlib.Core.Bool.{true, false}
+use lib.Dec.{eqb}
+use lib.ListN.{length}
+use Rattle.machine.specs.Common.{all-below}
+use Rattle.machine.specs.Range.{count-in}
+use Rattle.machine.specs.SiteBook.{book-length, setting-in}
 use borrow.Author.Tests.{eq-eqb, ne-eqb}
 use Rattle.machine.specs.SiteBook.{write-number}
 use borrow.Author.Needs.{needs}
@@ -31,22 +38,39 @@ add-if3 c = search needs
 -- src/lib.rt:204:17
 returns : tie.Need-returns
 unfolding write-number
-returns c = simp (eq-eqb _ _ (c .if3 .taken), c .before .if2 .taken, c .before .before .settings-in .ensures, c .before .before .before .if1 .taken, c .before .before .before .before .count-in .ensures)
+returns c =
+    let s = c .before .before .before .before .before .before .args .s in
+    let n : count-in (s .n) ≡ true = sym (c .before .before .before .before .count-in .ensures) ∙ c .before .before .before .if1 .taken in
+    let t : all-below 8 (setting-in s) ≡ true = sym (c .before .before .settings-in .ensures) ∙ c .before .if2 .taken in
+    let l : eqb (length (c .before .before .before .before .before .before .args .out .now)) (book-length (s .n)) ≡ true = eq-eqb _ _ (c .if3 .taken) in
+    rw (n, t, l)
 
 -- src/lib.rt:206:13
 returns-2 : tie.Need-returns-2
 unfolding write-number
-returns-2 c = simp (ne-eqb _ _ (c .if3 .left), c .before .if2 .taken, c .before .before .settings-in .ensures, c .before .before .before .if1 .taken, c .before .before .before .before .count-in .ensures)
+returns-2 c =
+    let s = c .before .before .before .before .before .before .args .s in
+    let n : count-in (s .n) ≡ true = sym (c .before .before .before .before .count-in .ensures) ∙ c .before .before .before .if1 .taken in
+    let t : all-below 8 (setting-in s) ≡ true = sym (c .before .before .settings-in .ensures) ∙ c .before .if2 .taken in
+    let l : eqb (length (c .before .before .before .before .before .before .args .out .now)) (book-length (s .n)) ≡ false = ne-eqb _ _ (c .if3 .left) in
+    rw (n, t, l)
 
 -- src/lib.rt:208:9
 returns-3 : tie.Need-returns-3
 unfolding write-number
-returns-3 c = simp (c .if2 .left, c .before .settings-in .ensures, c .before .before .if1 .taken, c .before .before .before .count-in .ensures)
+returns-3 c =
+    let s = c .before .before .before .before .before .args .s in
+    let n : count-in (s .n) ≡ true = sym (c .before .before .before .count-in .ensures) ∙ c .before .before .if1 .taken in
+    let t : all-below 8 (setting-in s) ≡ false = sym (c .before .settings-in .ensures) ∙ c .if2 .left in
+    rw (n, t)
 
 -- src/lib.rt:196:1
 returns-4 : tie.Need-returns-4
 unfolding write-number
-returns-4 c = simp (c .if1 .left, c .before .count-in .ensures)
+returns-4 c =
+    let s = c .before .before .before .args .s in
+    let n : count-in (s .n) ≡ false = sym (c .before .count-in .ensures) ∙ c .if1 .left in
+    rw n
 
 pub write-number-spec : {M : Type 1} → statement M
 write-number-spec =
