@@ -1,19 +1,19 @@
 -- The round trips. A book that is taken is written back byte for byte, and settings that are taken are read back.
 use mathlib.Core.Path.{_≡_, refl, sym, _∙_, ap}
-use mathlib.Core.Bool.{Bool, true, false, cond, not, _&&_}
+use mathlib.Core.Bool.{true, cond, not, _&&_}
 use mathlib.Core.List.{List, [], _∷_, _++_}
-use Prim.Native.Nat.{ℕ, zero, suc, _+_, _*_, _≤_, _<_}
+use Prim.Native.Nat.{ℕ, suc, _+_, _*_, _<_}
 use native.Mathlib.Omega.{arith}
 use lib.Dec.{eqb, ltb, leb, lit<}
-use lib.ListN.{length, take, drop, getD, length-append, List·getD-append}
+use lib.ListN.{length, take, drop, getD, List·getD-append}
 use lib.Seq.{take-add, take-all, getD-append-add}
 use borrow.Author.Tests.{eq-eqb, ne-eqb, eqb-true, lt-ltb, ltb-true, leb-true}
 use Rattle.machine.specs.declared.Entry.{Entry}
 use Rattle.machine.specs.declared.Site.{Site}
-use Rattle.machine.specs.Common.{tab, all-below, concat-below, refuse, byte, word, low, high}
+use Rattle.machine.specs.Common.{concat-below, refuse, byte, low, high}
 use Rattle.machine.specs.Numbers.{bad-output-length}
 use Rattle.machine.specs.Plant.{no-entry, fresh-plant}
-use Rattle.machine.specs.Range.{entry-in, entry-zero, count-in, gap-in}
+use Rattle.machine.specs.Range.{entry-in, entry-zero, gap-in}
 use Rattle.machine.specs.SiteBook.{book, book-entry, book-length, book-site, book-size, first-part, no-site, read, read-number, second-part, setting, setting-in, write-number, written-book}
 use Rattle.machine.proofs.Tools.{by-test, and-both, all-below-intro, tab-same, tab-getD, length-concat, getD-concat}
 use Rattle.machine.proofs.Ranges.{entry-reads}
@@ -21,7 +21,7 @@ use Rattle.machine.proofs.Laws.{BookIn, book-reads, read-plant, site-entry, boo
 use Rattle.book.specs.Copies.{copied, copy-number, reread}
 use Rattle.book.proofs.Rows.{concat-same, concat-parts, part-bytes}
 use Rattle.book.proofs.Bytes.{low-word, high-word, word-of}
-use Rattle.book.proofs.Accepted.{WriteIn, few, write-reads}
+use Rattle.book.proofs.Accepted.{few, write-reads}
 
 -- A book read and written ----------------------------------------------------------------------------------------------------------
 module _ (b : List ℕ) (bytes : (k : ℕ) → byte b k < 256) (q : read-number b ≡ 0) where
@@ -93,6 +93,15 @@ module _ (b : List ℕ) (bytes : (k : ℕ) → byte b k < 256) (q : read-number 
   write-what-is-read lent e =
       let t = eq-eqb (length lent) (length b) e in
       (copies lent .0 ∙ rw (q, t), copies lent .1 ∙ rw (q, t))
+
+pub number-of : (b : List ℕ) → read b .number ≡ read-number b
+unfolding read
+number-of b = refl
+
+-- a book that is refused is not copied
+pub copy-refused : (b lent : List ℕ) → (read-number b ≡ 0 → ⊥) → (read-number b ≡ copy-number b lent) × (lent ≡ copied b lent)
+unfolding copied copy-number
+copy-refused b lent z = let t = ne-eqb (read-number b) 0 z in (rw t, rw (t, t))
 
 -- Settings written and read --------------------------------------------------------------------------------------------------------
 -- an entry by its fields, a site by its own
@@ -201,3 +210,8 @@ module _ (s : Site) where
     pub read-what-is-written : (read-number (book s) ≡ 0) × (read (book s) .plant .site ≡ s)
     unfolding reread fresh-plant
     read-what-is-written = (number-read, ap {B = Site} (λ r. r .plant .site) reading-back ∙ rw q)
+
+-- settings that are refused give the fresh plant of an all-zero site
+pub reread-refused : (s : Site) (lent : List ℕ) → (write-number s lent ≡ 0 → ⊥) → reread s lent ≡ record { number = write-number s lent; plant = fresh-plant no-site }
+unfolding reread
+reread-refused s lent z = rw (ne-eqb (write-number s lent) 0 z)

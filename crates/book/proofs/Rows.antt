@@ -1,13 +1,13 @@
 -- Laws of rows laid in a list, and of a table that is filled from its front.
-use mathlib.Core.Path.{_≡_, refl, sym, _∙_, ap, subst}
-use mathlib.Core.Bool.{Bool, true, false, cond}
+use mathlib.Core.Path.{_≡_, refl, sym, _∙_, ap}
+use mathlib.Core.Bool.{cond}
 use mathlib.Core.List.{List, [], _∷_, _++_, append-assoc, append-nil}
 use Prim.Native.Nat.{ℕ, zero, suc, _+_, _*_, _≤_, _<_}
 use native.Mathlib.Omega.{arith}
 use native.Mathlib.Nat.{mul-suc}
 use lib.Dec.{eqb, ltb}
-use lib.ListN.{length, take, drop, set, getD, length-append, length-drop, take-append-drop, length-set, drop-of-length-le}
-use lib.Seq.{sets, sets-eq, length-take-le, take-at, drop-append-add, take-add, take-all, drop-drop, drop-cons}
+use lib.ListN.{length, take, drop, set, getD, length-append, length-drop, take-append-drop, drop-of-length-le}
+use lib.Seq.{sets, sets-eq, length-take-le, take-at, drop-append-add, take-add, drop-drop, drop-cons}
 use borrow.Author.Tests.{eqb-true, eqb-false, lt-ltb, le-ltb, ltb-true, ltb-false}
 use Rattle.machine.specs.Common.{tab, concat-below}
 use Rattle.machine.proofs.Tools.{by-test, tab-same, tab-set, getD-tab, length-tab, length-concat}

@@ -11,10 +11,6 @@ use Rattle.machine.specs.SiteBook.{book-entry, book-site, book-size}
 use borrow.Author.Needs.{needs}
 use Rattle.book.proofs.book_site.Statement.{statement}
 use Rattle.book.proofs.book_site.Tie as tie
-use Rattle.book.proofs.book_site.Reads as reads
-use Rattle.book.proofs.book_site.Lts as lts
-use Rattle.book.proofs.entry_at.Reads as entry-at-reads
-use Rattle.book.proofs.no_entry.Reads as no-entry-reads
 
 abbrev Inv-loop : tie.InvT-loop
 Inv-loop b size n entries₀ i₀ entries i = (i ≤ book-size b) × (entries ≡ tab 8 (λ j. cond (ltb j i) (book-entry b j) no-entry))
@@ -22,49 +18,38 @@ Inv-loop b size n entries₀ i₀ entries i = (i ≤ book-size b) × (entries �
 abbrev μ-loop : tie.MeasureT-loop
 μ-loop b size n entries₀ i₀ entries i = book-size b - i
 
--- src/lib.rt:138:16
 shared-slice-read-size : tie.Need-shared-slice-read-size Inv-loop μ-loop
 shared-slice-read-size c = search needs
 
--- src/lib.rt:139:13
 cast-n : tie.Need-cast-n Inv-loop μ-loop
 cast-n c = search needs
 
--- src/lib.rt:140:9
 no-entry-requires : tie.Need-no-entry-requires Inv-loop μ-loop
 no-entry-requires c κs = search needs
 
--- src/lib.rt:143:5
 loop-holds : tie.Need-loop-holds Inv-loop μ-loop
 loop-holds c = (search needs, simp (c .no-entry .ensures))
 
--- src/lib.rt:144:13
 entry-at-requires : tie.Need-entry-at-requires Inv-loop μ-loop
 entry-at-requires c κs = search needs
 
--- src/lib.rt:145:9
 mul-entries : tie.Need-mul-entries Inv-loop μ-loop
 mul-entries c = search needs
 
--- src/lib.rt:145:9
 array-set-from-entries : tie.Need-array-set-from-entries Inv-loop μ-loop
 array-set-from-entries c = search needs
 
--- src/lib.rt:146:9
 add-i : tie.Need-add-i Inv-loop μ-loop
 add-i c = search needs
 
--- src/lib.rt:143:5
 loop-less : tie.Need-loop-less Inv-loop μ-loop
 loop-less c = search needs
 
--- src/lib.rt:143:5
 loop-again : tie.Need-loop-again Inv-loop μ-loop
 loop-again c =
     let b = (c .before .before .before .before .before .before .args .b .now) in
     (search needs, simp (add-one, c .before .before .loop .inv .1, c .entry-at .ensures) (fill-next 8 (c .before .before .loop .i) (book-entry b) no-entry (omega arith)))
 
--- src/lib.rt:134:1
 returns : tie.Need-returns Inv-loop μ-loop
 unfolding book-site
 returns c = let h : c .before .loop .i ≡ book-size ((c .before .before .before .before .before .args .b .now)) = omega arith in simp (c .before .loop .inv .1, h)

@@ -1,34 +1,37 @@
-use borrow.Author.Tests.{eq-eqb, ne-eqb}
-use Rattle.book.specs.Copies.{copy-number}
+use mathlib.Core.Path.{_≡_, sym, _∙_, ap}
+use Prim.Native.Nat.{ℕ}
+use Rattle.machine.specs.SiteBook.{read-number}
+use Rattle.book.proofs.RoundTrip.{copies, copy-refused, number-of}
 use borrow.Author.Needs.{needs}
 use Rattle.book.proofs.copy.Statement.{statement}
 use Rattle.book.proofs.copy.Tie as tie
-use Rattle.book.proofs.copy.Reads as reads
-use Rattle.book.proofs.copy.Lts as lts
-use Rattle.book.proofs.read.Reads as read-reads
-use Rattle.book.proofs.write.Reads as write-reads
 
--- src/lib.rt:304:9
 read-requires : tie.Need-read-requires
 read-requires c κs = search needs
 
--- src/lib.rt:309:9
 write-requires : tie.Need-write-requires
 write-requires c κs = search needs
 
--- src/lib.rt:309:9
 same-length : tie.Need-same-length
 same-length c = search needs
 
--- src/lib.rt:309:9
 returns : tie.Need-returns
-unfolding copy-number
-returns c = (simp (c .before .before .write .ensures .0, eq-eqb _ _ (c .before .before .before .before .before .before .if1 .taken), c .before .before .before .before .before .before .before .read .ensures), search needs)
+returns c =
+    let b = c .before .before .before .before .before .before .before .before .before .before .args .b .now in
+    let o = c .before .before .before .before .before .before .before .before .before .before .args .out .now in
+    let e = c .before .before .before .before .before .before .before .read .ensures in
+    let q : read-number b ≡ 0 = sym (ap {B = ℕ} (λ r. r .number) e ∙ number-of b) ∙ c .before .before .before .before .before .before .if1 .taken in
+    let w = c .before .before .write .ensures in
+    let p = copies b (λ k. c .before .before .before .before .before .before .before .before .before .shared-slice-known .given k .fits) q o in
+    (w .0 ∙ rw e (p .0), w .1 ∙ rw e (p .1))
 
--- src/lib.rt:300:1
 returns-2 : tie.Need-returns-2
-unfolding copy-number
-returns-2 c = (simp (ne-eqb _ _ (c .if1 .left), c .before .read .ensures), search needs)
+returns-2 c =
+    let b = c .before .before .before .before .args .b .now in
+    let o = c .before .before .before .before .args .out .now in
+    let e = ap {B = ℕ} (λ r. r .number) (c .before .read .ensures) ∙ number-of b in
+    let p = copy-refused b o (λ z. c .if1 .left (e ∙ z)) in
+    (e ∙ p .0, p .1)
 
 pub copy-spec : {M : Type 1} → statement M
 copy-spec = tie.close (tie.spec read-requires write-requires same-length returns returns-2)

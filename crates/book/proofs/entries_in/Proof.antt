@@ -8,10 +8,6 @@ use Rattle.machine.specs.SiteBook.{book-entry, book-size}
 use borrow.Author.Needs.{needs}
 use Rattle.book.proofs.entries_in.Statement.{statement}
 use Rattle.book.proofs.entries_in.Tie as tie
-use Rattle.book.proofs.entries_in.Reads as reads
-use Rattle.book.proofs.entries_in.Lts as lts
-use Rattle.book.proofs.entry_at.Reads as entry-at-reads
-use Rattle.plant.proofs.entry_in.Reads as entry-in-reads
 
 abbrev Inv-loop : tie.InvT-loop
 Inv-loop b n ok₀ i₀ ok i = (i ≤ book-size b) × (ok ≡ all-below i (λ j. entry-in (book-entry b j)))
@@ -19,39 +15,30 @@ Inv-loop b n ok₀ i₀ ok i = (i ≤ book-size b) × (ok ≡ all-below i (λ j.
 abbrev μ-loop : tie.MeasureT-loop
 μ-loop b n ok₀ i₀ ok i = book-size b - i
 
--- src/lib.rt:79:13
 shared-slice-read-n : tie.Need-shared-slice-read-n Inv-loop μ-loop
 shared-slice-read-n c = search needs
 
--- src/lib.rt:79:13
 cast-n : tie.Need-cast-n Inv-loop μ-loop
 cast-n c = search needs
 
--- src/lib.rt:82:5
 loop-holds : tie.Need-loop-holds Inv-loop μ-loop
 loop-holds c = search needs
 
--- src/lib.rt:83:13
 entry-at-requires : tie.Need-entry-at-requires Inv-loop μ-loop
 entry-at-requires c κs = search needs
 
--- src/lib.rt:84:19
 entry-in-requires : tie.Need-entry-in-requires Inv-loop μ-loop
 entry-in-requires c κs = search needs
 
--- src/lib.rt:85:9
 add-i : tie.Need-add-i Inv-loop μ-loop
 add-i c = search needs
 
--- src/lib.rt:82:5
 loop-less : tie.Need-loop-less Inv-loop μ-loop
 loop-less c = search needs
 
--- src/lib.rt:82:5
 loop-again : tie.Need-loop-again Inv-loop μ-loop
 loop-again c = (search needs, simp (add-one, c .before .before .before .loop .inv .1, c .entry-in .ensures, c .before .entry-at .ensures))
 
--- src/lib.rt:75:1
 returns : tie.Need-returns Inv-loop μ-loop
 returns c = let h : c .before .loop .i ≡ book-size ((c .before .before .before .before .args .b .now)) = omega arith in simp (c .before .loop .inv .1, h)
 

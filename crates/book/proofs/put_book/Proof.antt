@@ -1,4 +1,4 @@
-use mathlib.Core.Path.{_≡_, refl, _∙_, ap}
+use mathlib.Core.Path.{refl, _∙_, ap}
 use mathlib.Core.List.{List}
 use Prim.Native.Nat.{ℕ, _+_, _*_}
 use lib.ListN.{length-set}
@@ -8,28 +8,19 @@ use Rattle.book.proofs.Rows.{filled}
 use borrow.Author.Needs.{needs}
 use Rattle.book.proofs.put_book.Statement.{statement}
 use Rattle.book.proofs.put_book.Tie as tie
-use Rattle.book.proofs.put_book.Reads as reads
-use Rattle.book.proofs.put_book.Lts as lts
-use Rattle.book.proofs.put_firsts.Reads as put-firsts-reads
-use Rattle.book.proofs.put_seconds.Reads as put-seconds-reads
 
--- src/lib.rt:279:5
 slice-write-out : tie.Need-slice-write-out
 slice-write-out c = search needs
 
--- src/lib.rt:280:5
 put-firsts-requires : tie.Need-put-firsts-requires
 put-firsts-requires c κs = search needs
 
--- src/lib.rt:281:5
 put-seconds-requires : tie.Need-put-seconds-requires
 put-seconds-requires c κs = (search needs, c .before .before .before .put-firsts .kept .1 .0 ∙ simp length-set (c .before .before .before .before .before .before .pre .1))
 
--- src/lib.rt:275:1
 same-length : tie.Need-same-length
 same-length c = c .before .before .put-seconds .kept .1 .0 ∙ c .before .before .before .before .before .before .put-firsts .kept .1 .0 ∙ simp length-set
 
--- src/lib.rt:275:1
 returns : tie.Need-returns
 unfolding book first-part second-part
 returns c =

@@ -6,34 +6,25 @@ use Rattle.machine.specs.SiteBook.{first-part}
 use borrow.Author.Needs.{needs}
 use Rattle.book.proofs.put_first.Statement.{statement}
 use Rattle.book.proofs.put_first.Tie as tie
-use Rattle.book.proofs.put_first.Reads as reads
-use Rattle.book.proofs.put_first.Lts as lts
 
--- src/lib.rt:230:5
 slice-write-out : tie.Need-slice-write-out
 slice-write-out c = search needs
 
--- src/lib.rt:231:9
 add-out : tie.Need-add-out
 add-out c = search needs
 
--- src/lib.rt:231:5
 slice-write-out-2 : tie.Need-slice-write-out-2
 slice-write-out-2 c = simp length-set (omega arith)
 
--- src/lib.rt:232:9
 add-out-2 : tie.Need-add-out-2
 add-out-2 c = search needs
 
--- src/lib.rt:232:5
 slice-write-out-3 : tie.Need-slice-write-out-3
 slice-write-out-3 c = simp length-set (omega arith)
 
--- src/lib.rt:226:1
 same-length : tie.Need-same-length
 same-length c = search needs
 
--- src/lib.rt:226:1
 returns : tie.Need-returns
 unfolding first-part
 returns c =

@@ -1,6 +1,6 @@
 use mathlib.Core.Path.{_≡_, refl, sym, _∙_, ap}
 use mathlib.Core.List.{List}
-use Prim.Native.Nat.{ℕ, suc, _+_, _*_, _-_, _≤_}
+use Prim.Native.Nat.{ℕ, _+_, _*_, _-_, _≤_}
 use native.Mathlib.Omega.{arith}
 use native.Mathlib.Numerals.{add-one}
 use lib.ListN.{length}
@@ -11,9 +11,6 @@ use Rattle.book.proofs.Rows.{no-rows, next-row}
 use borrow.Author.Needs.{needs}
 use Rattle.book.proofs.put_firsts.Statement.{statement}
 use Rattle.book.proofs.put_firsts.Tie as tie
-use Rattle.book.proofs.put_firsts.Reads as reads
-use Rattle.book.proofs.put_firsts.Lts as lts
-use Rattle.book.proofs.put_first.Reads as put-first-reads
 
 abbrev Inv-loop : tie.InvT-loop
 Inv-loop out₀ s n i₀ out i = (i ≤ s .n) × ((out ≡ with-rows out₀ 1 3 (λ j. first-part (setting s j)) i) × (length out ≡ length out₀))
@@ -21,46 +18,36 @@ Inv-loop out₀ s n i₀ out i = (i ≤ s .n) × ((out ≡ with-rows out₀ 1 3 
 abbrev μ-loop : tie.MeasureT-loop
 μ-loop out₀ s n i₀ out i = s .n - i
 
--- src/lib.rt:251:13
 cast-n : tie.Need-cast-n Inv-loop μ-loop
 cast-n c = search needs
 
--- src/lib.rt:253:5
 loop-holds : tie.Need-loop-holds Inv-loop μ-loop
 unfolding first-part
 loop-holds c =
     let s = c .before .args .t1 in
     (search needs, (sym (no-rows ((c .before .args .out .now)) 1 3 (λ j. first-part (setting s j)) (λ j. refl)), refl))
 
--- src/lib.rt:254:17
 mul-x : tie.Need-mul-x Inv-loop μ-loop
 mul-x c = search needs
 
--- src/lib.rt:254:17
 element-copy-out-x : tie.Need-element-copy-out-x Inv-loop μ-loop
 element-copy-out-x c = search needs
 
--- src/lib.rt:255:28
 mul-put-first : tie.Need-mul-put-first Inv-loop μ-loop
 mul-put-first c = search needs
 
--- src/lib.rt:255:24
 add-put-first : tie.Need-add-put-first Inv-loop μ-loop
 add-put-first c = search needs
 
--- src/lib.rt:255:9
 put-first-requires : tie.Need-put-first-requires Inv-loop μ-loop
 put-first-requires c κs = search needs
 
--- src/lib.rt:256:9
 add-i : tie.Need-add-i Inv-loop μ-loop
 add-i c = search needs
 
--- src/lib.rt:253:5
 loop-less : tie.Need-loop-less Inv-loop μ-loop
 loop-less c = search needs
 
--- src/lib.rt:253:5
 loop-again : tie.Need-loop-again Inv-loop μ-loop
 unfolding first-part
 loop-again c =
@@ -76,11 +63,9 @@ loop-again c =
       ),
     )
 
--- src/lib.rt:247:1
 same-length : tie.Need-same-length Inv-loop μ-loop
 same-length c = search needs
 
--- src/lib.rt:247:1
 returns : tie.Need-returns Inv-loop μ-loop
 returns c =
     let w = c .before .loop .inv in

@@ -6,60 +6,43 @@ use Rattle.machine.specs.SiteBook.{second-part}
 use borrow.Author.Needs.{needs}
 use Rattle.book.proofs.put_second.Statement.{statement}
 use Rattle.book.proofs.put_second.Tie as tie
-use Rattle.book.proofs.put_second.Reads as reads
-use Rattle.book.proofs.put_second.Lts as lts
-use Rattle.book.proofs.high.Reads as high-reads
-use Rattle.book.proofs.low.Reads as low-reads
 
--- src/lib.rt:240:15
 low-requires : tie.Need-low-requires
 low-requires c κs = search needs
 
--- src/lib.rt:240:5
 slice-write-out : tie.Need-slice-write-out
 slice-write-out c = search needs
 
--- src/lib.rt:241:19
 high-requires : tie.Need-high-requires
 high-requires c κs = search needs
 
--- src/lib.rt:241:9
 add-out : tie.Need-add-out
 add-out c = search needs
 
--- src/lib.rt:241:5
 slice-write-out-2 : tie.Need-slice-write-out-2
 slice-write-out-2 c = simp length-set (omega arith)
 
--- src/lib.rt:242:19
 low-requires-2 : tie.Need-low-requires-2
 low-requires-2 c κs = search needs
 
--- src/lib.rt:242:9
 add-out-2 : tie.Need-add-out-2
 add-out-2 c = search needs
 
--- src/lib.rt:242:5
 slice-write-out-3 : tie.Need-slice-write-out-3
 slice-write-out-3 c = simp length-set (omega arith)
 
--- src/lib.rt:243:19
 high-requires-2 : tie.Need-high-requires-2
 high-requires-2 c κs = search needs
 
--- src/lib.rt:243:9
 add-out-3 : tie.Need-add-out-3
 add-out-3 c = search needs
 
--- src/lib.rt:243:5
 slice-write-out-4 : tie.Need-slice-write-out-4
 slice-write-out-4 c = simp length-set (omega arith)
 
--- src/lib.rt:236:1
 same-length : tie.Need-same-length
 same-length c = search needs
 
--- src/lib.rt:236:1
 returns : tie.Need-returns
 unfolding second-part
 returns c =

@@ -1,50 +1,36 @@
 use mathlib.Core.Path.{_≡_, sym, _∙_}
-use Rattle.machine.specs.SiteBook.{book-size, read-number}
+use Rattle.machine.specs.SiteBook.{book-size, read-number, read}
 use Rattle.machine.proofs.Laws.{book-reads}
 use Rattle.book.proofs.Accepted.{few}
-use borrow.Author.Tests.{eq-eqb, ne-eqb}
-use Rattle.machine.specs.SiteBook.{read}
+use borrow.Author.Tests.{ne-eqb}
 use borrow.Author.Needs.{needs}
 use Rattle.book.proofs.read.Statement.{statement}
 use Rattle.book.proofs.read.Tie as tie
-use Rattle.book.proofs.read.Reads as reads
-use Rattle.book.proofs.read.Lts as lts
-use Rattle.book.proofs.book_site.Reads as book-site-reads
-use Rattle.book.proofs.no_site.Reads as no-site-reads
-use Rattle.book.proofs.read_number.Reads as read-number-reads
-use Rattle.machine.proofs.Plant.fresh.Reads as fresh-reads
 
--- src/lib.rt:155:9
 read-number-requires : tie.Need-read-number-requires
 read-number-requires c κs = search needs
 
--- src/lib.rt:157:13
 book-site-requires : tie.Need-book-site-requires
 book-site-requires c κs =
     let b = c .before .before .before .args .b .now in
     let h = book-reads b (sym (c .before .read-number .ensures) ∙ c .if1 .taken) in
     (h .size, few (book-size b) (h .count))
 
--- src/lib.rt:158:13
 fresh-requires : tie.Need-fresh-requires
 fresh-requires c κs = search needs
 
--- src/lib.rt:159:9
 returns : tie.Need-returns
 unfolding read
 returns c =
     let q : read-number (c .before .before .before .before .before .args .b .now) ≡ 0 = sym (c .before .before .before .read-number .ensures) ∙ c .before .before .if1 .taken in
     simp (c .fresh .ensures, c .before .book-site .ensures, q)
 
--- src/lib.rt:161:9
 no-site-requires : tie.Need-no-site-requires
 no-site-requires c κs = search needs
 
--- src/lib.rt:162:9
 fresh-requires-2 : tie.Need-fresh-requires-2
 fresh-requires-2 c κs = search needs
 
--- src/lib.rt:152:1
 returns-2 : tie.Need-returns-2
 unfolding read
 returns-2 c =

@@ -5,47 +5,34 @@ use lib.Dec.{eqb}
 use lib.ListN.{length}
 use Rattle.machine.specs.Common.{all-below}
 use Rattle.machine.specs.Range.{count-in, entry-in}
-use Rattle.machine.specs.SiteBook.{book-entry, book-length, book-size}
+use Rattle.machine.specs.SiteBook.{book-entry, book-length, book-size, read-number}
 use borrow.Author.Tests.{eq-eqb, ne-eqb}
-use Rattle.machine.specs.SiteBook.{read-number}
 use borrow.Author.Needs.{needs}
 use Rattle.book.proofs.read_number.Statement.{statement}
 use Rattle.book.proofs.read_number.Tie as tie
-use Rattle.book.proofs.read_number.Reads as reads
-use Rattle.book.proofs.read_number.Lts as lts
-use Rattle.book.proofs.entries_in.Reads as entries-in-reads
-use Rattle.plant.proofs.count_in.Reads as count-in-reads
 
--- src/lib.rt:95:9
 returns : tie.Need-returns
 unfolding read-number
 returns c = simp (eq-eqb _ _ (c .if1 .taken))
 
--- src/lib.rt:97:16
 shared-slice-read-size : tie.Need-shared-slice-read-size
 shared-slice-read-size c = search needs
 
--- src/lib.rt:98:8
 count-in-requires : tie.Need-count-in-requires
 count-in-requires c κs = search needs
 
--- src/lib.rt:99:17
 cast-n : tie.Need-cast-n
 cast-n c = omega (arith, c .before .before .shared-slice-known2 .given 0)
 
--- src/lib.rt:100:27
 mul-if3 : tie.Need-mul-if3
 mul-if3 c = omega (arith, c .before .before .shared-slice-known2 .given 0)
 
--- src/lib.rt:100:23
 add-if3 : tie.Need-add-if3
 add-if3 c = omega (arith, c .before .before .shared-slice-known2 .given 0)
 
--- src/lib.rt:101:16
 entries-in-requires : tie.Need-entries-in-requires
 entries-in-requires c κs = search needs
 
--- src/lib.rt:102:17
 returns-2 : tie.Need-returns-2
 unfolding read-number
 returns-2 c =
@@ -56,7 +43,6 @@ returns-2 c =
     let t : all-below (book-size b) (λ i. entry-in (book-entry b i)) ≡ true = sym (c .before .entries-in .ensures) ∙ c .if4 .taken in
     rw (z, n, l, t)
 
--- src/lib.rt:104:13
 returns-3 : tie.Need-returns-3
 unfolding read-number
 returns-3 c =
@@ -67,7 +53,6 @@ returns-3 c =
     let t : all-below (book-size b) (λ i. entry-in (book-entry b i)) ≡ false = sym (c .before .entries-in .ensures) ∙ c .if4 .left in
     rw (z, n, l, t)
 
--- src/lib.rt:106:9
 returns-4 : tie.Need-returns-4
 unfolding read-number
 returns-4 c =
@@ -77,7 +62,6 @@ returns-4 c =
     let l : eqb (length b) (book-length (book-size b)) ≡ false = ne-eqb _ _ (c .if3 .left) in
     rw (z, n, l)
 
--- src/lib.rt:91:1
 returns-5 : tie.Need-returns-5
 unfolding read-number
 returns-5 c =

@@ -1,48 +1,46 @@
-use borrow.Author.Tests.{eq-eqb, ne-eqb}
-use Rattle.book.specs.Copies.{reread}
+use mathlib.Core.Path.{_≡_, sym, _∙_, ap}
+use lib.ListN.{length, length-map}
+use Rattle.machine.specs.declared.Reading.{Reading}
+use Rattle.machine.specs.SiteBook.{read, write-number}
+use Rattle.book.proofs.Accepted.{written-taken}
+use Rattle.book.proofs.RoundTrip.{reading-back, reread-refused}
 use borrow.Author.Needs.{needs}
 use Rattle.book.proofs.reread.Statement.{statement}
 use Rattle.book.proofs.reread.Tie as tie
-use Rattle.book.proofs.reread.Reads as reads
-use Rattle.book.proofs.reread.Lts as lts
-use Rattle.book.proofs.no_site.Reads as no-site-reads
-use Rattle.book.proofs.read.Reads as read-reads
-use Rattle.book.proofs.write.Reads as write-reads
-use Rattle.machine.proofs.Plant.fresh.Reads as fresh-reads
 
--- src/lib.rt:319:9
 write-requires : tie.Need-write-requires
 write-requires c κs = search needs
 
--- src/lib.rt:321:9
 read-requires : tie.Need-read-requires
 read-requires c κs = search needs
 
--- src/lib.rt:321:9
 same-length : tie.Need-same-length
 same-length c = search needs
 
--- src/lib.rt:321:9
 returns : tie.Need-returns
-unfolding reread
-returns c = (simp (c .read .ensures, eq-eqb _ _ (c .before .before .if1 .taken), c .before .before .before .before .before .write .ensures .0), search needs)
+returns c =
+    let s = c .before .before .before .before .before .before .before .before .args .s in
+    let o = c .before .before .before .before .before .before .before .before .args .out .now in
+    let w = c .before .before .before .before .before .write .ensures in
+    let q : write-number s o ≡ 0 = sym (w .0) ∙ c .before .before .if1 .taken in
+    let eight : length (s .entries) ≡ 8 = simp length-map at (c .before .before .before .before .before .before .before .before .good .0 .1 .1 .1 .0 .1 .0 .1) in
+    (c .read .ensures ∙ ap {B = Reading} read (w .1 ∙ written-taken s o q) ∙ reading-back s o eight q, w .1)
 
--- src/lib.rt:323:9
 no-site-requires : tie.Need-no-site-requires
 no-site-requires c κs = search needs
 
--- src/lib.rt:324:9
 fresh-requires : tie.Need-fresh-requires
 fresh-requires c κs = search needs
 
--- src/lib.rt:315:1
 same-length-2 : tie.Need-same-length-2
 same-length-2 c = search needs
 
--- src/lib.rt:315:1
 returns-2 : tie.Need-returns-2
-unfolding reread
-returns-2 c = (simp (c .fresh .ensures, c .before .no-site .ensures, ne-eqb _ _ (c .before .before .if1 .left), c .before .before .before .before .before .write .ensures .0), search needs)
+returns-2 c =
+    let s = c .before .before .before .before .before .before .before .before .args .s in
+    let o = c .before .before .before .before .before .before .before .before .args .out .now in
+    let w = c .before .before .before .before .before .write .ensures in
+    (simp (c .fresh .ensures, c .before .no-site .ensures, w .0) (sym (reread-refused s o (λ z. c .before .before .if1 .left (w .0 ∙ z)))), w .1)
 
 pub reread-spec : {M : Type 1} → statement M
 reread-spec =

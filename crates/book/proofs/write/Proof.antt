@@ -1,42 +1,31 @@
 use mathlib.Core.Path.{sym, _∙_}
 use Rattle.book.proofs.Accepted.{few, write-reads, written-taken, written-refused}
-use borrow.Author.Tests.{eq-eqb, ne-eqb}
 use Rattle.machine.specs.SiteBook.{write-number}
 use borrow.Author.Needs.{needs}
 use Rattle.book.proofs.write.Statement.{statement}
 use Rattle.book.proofs.write.Tie as tie
-use Rattle.book.proofs.write.Reads as reads
-use Rattle.book.proofs.write.Lts as lts
-use Rattle.book.proofs.put_book.Reads as put-book-reads
-use Rattle.book.proofs.write_number.Reads as write-number-reads
 
--- src/lib.rt:289:9
 write-number-requires : tie.Need-write-number-requires
 write-number-requires c κs = search needs
 
--- src/lib.rt:291:9
 put-book-requires : tie.Need-put-book-requires
 put-book-requires c κs =
     let s = c .before .before .before .before .before .args .s in
     let h = write-reads s (c .before .before .before .before .before .args .out .now) (sym (c .before .before .write-number .ensures) ∙ c .before .if1 .taken) in
     (few (s .n) (h .count), h .size)
 
--- src/lib.rt:292:9
 same-length : tie.Need-same-length
 same-length c = search needs
 
--- src/lib.rt:292:9
 returns : tie.Need-returns
 returns c =
     let e = c .before .before .before .before .before .write-number .ensures in
     let z = c .before .before .before .before .if1 .taken in
     (sym z ∙ e, c .before .before .put-book .ensures ∙ sym (written-taken _ _ (sym e ∙ z)))
 
--- src/lib.rt:285:1
 same-length-2 : tie.Need-same-length-2
 same-length-2 c = search needs
 
--- src/lib.rt:285:1
 returns-2 : tie.Need-returns-2
 returns-2 c =
     let e = c .before .write-number .ensures in

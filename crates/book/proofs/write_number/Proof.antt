@@ -4,38 +4,27 @@ use lib.Dec.{eqb}
 use lib.ListN.{length}
 use Rattle.machine.specs.Common.{all-below}
 use Rattle.machine.specs.Range.{count-in}
-use Rattle.machine.specs.SiteBook.{book-length, setting-in}
+use Rattle.machine.specs.SiteBook.{book-length, setting-in, write-number}
 use borrow.Author.Tests.{eq-eqb, ne-eqb}
-use Rattle.machine.specs.SiteBook.{write-number}
 use borrow.Author.Needs.{needs}
 use Rattle.book.proofs.write_number.Statement.{statement}
 use Rattle.book.proofs.write_number.Tie as tie
-use Rattle.book.proofs.write_number.Reads as reads
-use Rattle.book.proofs.write_number.Lts as lts
-use Rattle.book.proofs.settings_in.Reads as settings-in-reads
-use Rattle.plant.proofs.count_in.Reads as count-in-reads
 
--- src/lib.rt:200:8
 count-in-requires : tie.Need-count-in-requires
 count-in-requires c κs = search needs
 
--- src/lib.rt:201:12
 settings-in-requires : tie.Need-settings-in-requires
 settings-in-requires c κs = search needs
 
--- src/lib.rt:202:25
 cast-count : tie.Need-cast-count
 cast-count c = search needs
 
--- src/lib.rt:203:33
 mul-if3 : tie.Need-mul-if3
 mul-if3 c = search needs
 
--- src/lib.rt:203:29
 add-if3 : tie.Need-add-if3
 add-if3 c = search needs
 
--- src/lib.rt:204:17
 returns : tie.Need-returns
 unfolding write-number
 returns c =
@@ -45,7 +34,6 @@ returns c =
     let l : eqb (length (c .before .before .before .before .before .before .args .out .now)) (book-length (s .n)) ≡ true = eq-eqb _ _ (c .if3 .taken) in
     rw (n, t, l)
 
--- src/lib.rt:206:13
 returns-2 : tie.Need-returns-2
 unfolding write-number
 returns-2 c =
@@ -55,7 +43,6 @@ returns-2 c =
     let l : eqb (length (c .before .before .before .before .before .before .args .out .now)) (book-length (s .n)) ≡ false = ne-eqb _ _ (c .if3 .left) in
     rw (n, t, l)
 
--- src/lib.rt:208:9
 returns-3 : tie.Need-returns-3
 unfolding write-number
 returns-3 c =
@@ -64,7 +51,6 @@ returns-3 c =
     let t : all-below 8 (setting-in s) ≡ false = sym (c .before .settings-in .ensures) ∙ c .if2 .left in
     rw (n, t)
 
--- src/lib.rt:196:1
 returns-4 : tie.Need-returns-4
 unfolding write-number
 returns-4 c =
