@@ -87,15 +87,15 @@ module _ (s : Entry) (c : Crossing) (e : Event) where
   abbrev pub stores : Crossing
   stores = record {
     calling =
-      cond (is 1 e) (set (c .calling) at (calling c at + bit (calls s c at) 1))
-      (cond (is 2 e) (set (c .calling) at (pred (calling c at)))
-      (cond (is 5 e && on) (set (c .calling) at (calling c at + waiting c at))
-      (c .calling)));
+        cond (is 1 e) (set (c .calling) at (calling c at + bit (calls s c at) 1))
+        (cond (is 2 e) (set (c .calling) at (pred (calling c at)))
+        (cond (is 5 e && on) (set (c .calling) at (calling c at + waiting c at))
+        (c .calling)));
     waiting =
-      cond (is 1 e) (set (c .waiting) at (waiting c at + bit (not (calls s c at)) 1))
-      (cond (is 2 e) (set (c .waiting) at (waiting c at - bit (eqb (calling c at) 0) 1))
-      (cond (is 5 e && on) (set (c .waiting) at 0)
-      (c .waiting)));
+        cond (is 1 e) (set (c .waiting) at (waiting c at + bit (not (calls s c at)) 1))
+        (cond (is 2 e) (set (c .waiting) at (waiting c at - bit (eqb (calling c at) 0) 1))
+        (cond (is 5 e && on) (set (c .waiting) at 0)
+        (c .waiting)));
     route = cond (is 5 e) (set (c .route) at on) (c .route);
     occupied = cond (is 6 e) (set (c .occupied) at on) (c .occupied);
     booms = cond (is 8 e) (set (c .booms) at (e .value)) (c .booms);
@@ -116,7 +116,8 @@ module _ (s : Entry) (c : Crossing) (e : Event) where
     stored 4 (c .route) false at (z .route) (is 5 e) (λ t. on),
     stored 4 (c .occupied) false at (z .occupied) (is 6 e) (λ t. on),
     stored 4 (c .booms) 0 at (z .booms) (is 8 e) (λ t. e .value),
-    stored 5 (c .lamps) false at (z .lamps) (is 9 e) (λ t. on))
+    stored 5 (c .lamps) false at (z .lamps) (is 9 e) (λ t. on),
+  )
 
   -- a passage where no train is calling
   abbrev waited : Crossing

@@ -1,6 +1,8 @@
 // What a taken event of codes 1 to 9 does to its own crossing (document 01, "Events").
 // Each function here is for other functions and crates alone: it requires what a taken event of a crossing in range has.
-use machine::{Crossing, Entry, Event};
+use machine::Crossing;
+use machine::Entry;
+use machine::Event;
 ghost use mathlib.Core.Path.{_≡_};
 ghost use Rattle.machine.specs.Effects.{act};
 ghost use Rattle.machine.specs.Settling.{settle};

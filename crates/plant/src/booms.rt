@@ -42,8 +42,5 @@ pub fn closed(kind: u8, booms: [u8; 4]) -> bool
             [booms[0] != 0, booms[1] != 0, booms[2] != 0, booms[3] != 0],
         );
     }
-    each(
-        kind,
-        [booms[0] == 2, booms[1] == 2, booms[2] == 2, booms[3] == 2],
-    )
+    down(kind, booms)
 }

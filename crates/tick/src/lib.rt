@@ -1,5 +1,7 @@
 // A tick: one crossing's, and that of the whole plant (document 01, "Events").
-use machine::{Crossing, Entry, Site};
+use machine::Crossing;
+use machine::Entry;
+use machine::Site;
 ghost use mathlib.Core.Bool.{true};
 ghost use mathlib.Core.Path.{_≡_};
 ghost use Prim.Native.Nat.{_+_, _≤_, pred};

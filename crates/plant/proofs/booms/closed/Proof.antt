@@ -1,5 +1,5 @@
 use borrow.Author.Tests.{eq-eqb, ne-eqb}
-use Rattle.machine.specs.Plant.{booms-closed}
+use Rattle.machine.specs.Plant.{booms-closed, booms-down}
 use borrow.Author.Needs.{needs}
 use Rattle.plant.proofs.booms.closed.Statement.{statement}
 use Rattle.plant.proofs.booms.closed.Tie as tie
@@ -20,27 +20,15 @@ each-requires : tie.Need-each-requires
 each-requires c κs = search needs
 
 returns : tie.Need-returns
-unfolding booms-closed
+unfolding booms-closed booms-down
 returns c = simp (c .each .ensures, eq-eqb _ _ (c .before .if1 .taken))
 
-array-read-t24 : tie.Need-array-read-t24
-array-read-t24 c = search needs
-
-array-read-t27 : tie.Need-array-read-t27
-array-read-t27 c = search needs
-
-array-read-t31 : tie.Need-array-read-t31
-array-read-t31 c = search needs
-
-array-read-t35 : tie.Need-array-read-t35
-array-read-t35 c = search needs
-
-each-requires-2 : tie.Need-each-requires-2
-each-requires-2 c κs = search needs
+down-requires : tie.Need-down-requires
+down-requires c κs = search needs
 
 returns-2 : tie.Need-returns-2
-unfolding booms-closed
-returns-2 c = simp (c .each2 .ensures, ne-eqb _ _ (c .before .if1 .left))
+unfolding booms-closed booms-down
+returns-2 c = simp (c .down .ensures, ne-eqb _ _ (c .before .if1 .left))
 
 pub closed-spec : {M : Type 1} → statement M
 closed-spec =
@@ -52,9 +40,5 @@ closed-spec =
     array-read-t19
     each-requires
     returns
-    array-read-t24
-    array-read-t27
-    array-read-t31
-    array-read-t35
-    each-requires-2
+    down-requires
     returns-2)
