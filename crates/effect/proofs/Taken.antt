@@ -1,7 +1,7 @@
 -- A crossing in range has room for an event that is taken there.
-use mathlib.Core.Path.{_≡_, refl, sym}
-use mathlib.Core.Bool.{Bool, true, false, cond}
-use Prim.Native.Nat.{ℕ, _+_, _≤_, _<_}
+use mathlib.Core.Path.{_≡_}
+use mathlib.Core.Bool.{false, cond}
+use Prim.Native.Nat.{ℕ, _≤_, _<_}
 use native.Mathlib.Omega.{arith}
 use native.Mathlib.Nat.{le-refl}
 use lib.Dec.{eqb, leb, lit≤}
@@ -42,11 +42,11 @@ taken-room n s c e g h q =
     record {
       place = omega (arith, p, l);
       most = by-cond (λ x. x ≤ full) (on-track (e .code))
-        (λ o. let t : e .place < s .tracks = rw o at p in
-        let f = h .track (e .place) (omega arith) .few in
-        by-test (is 1 e)
-        (λ i. let r = a .room i in rw i (omega arith))
-        (λ i. rw i (omega arith)))
-        (λ _. lit≤ tt);
+          (λ o. let t : e .place < s .tracks = rw o at p in
+          let f = h .track (e .place) (omega arith) .few in
+          by-test (is 1 e)
+          (λ i. let r = a .room i in rw i (omega arith))
+          (λ i. rw i (omega arith)))
+          (λ _. lit≤ tt);
       least = by-cond (λ x. x ≤ trains c (e .place)) (is 2 e) (λ i. let r = a .there i in omega arith) (λ _. omega arith);
     }

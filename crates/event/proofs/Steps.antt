@@ -1,8 +1,8 @@
 -- One event of the machine as the code takes it: by the entry and the crossing at one place of its arrays.
-use mathlib.Core.Path.{_≡_, refl, sym, _∙_}
-use mathlib.Core.Bool.{Bool, true, false}
+use mathlib.Core.Path.{_≡_, sym, _∙_}
+use mathlib.Core.Bool.{true, false}
 use mathlib.Core.List.{List}
-use Prim.Native.Nat.{ℕ, _+_, _%_, _≤_, _<_}
+use Prim.Native.Nat.{ℕ, _%_, _≤_, _<_}
 use native.Mathlib.Nat.{mod-eq-of-lt}
 use native.Mathlib.Omega.{arith}
 use lib.Dec.{eqb, ltb, leb}
@@ -15,8 +15,6 @@ use Rattle.machine.specs.declared.Entry.{Entry}
 use Rattle.machine.specs.declared.Crossing.{Crossing}
 use Rattle.machine.specs.declared.Plant.{Plant}
 use Rattle.machine.specs.declared.Event.{Event}
-use Rattle.machine.specs.declared.Answer.{Answer}
-use Rattle.machine.specs.Common.{tab}
 use Rattle.machine.specs.Plant.{no-entry, no-crossing, entry, crossing}
 use Rattle.machine.specs.Range.{in-range}
 use Rattle.machine.specs.Events.{is, crossing-limit, refusal, number}
@@ -65,19 +63,19 @@ module _ (p : Plant) (e : Event) where
 
   -- a taken tick
   pub tick-step : number p e ≡ 0 → e .code ≡ 0 → step p e ≡ record {
-      number = 0;
-      written = ticked-plant p .written;
-      plant = record { site = p .site; beat = ticked-plant p .beat; crossings = ticked-plant p .crossings };
-    }
+    number = 0;
+    written = ticked-plant p .written;
+    plant = record { site = p .site; beat = ticked-plant p .beat; crossings = ticked-plant p .crossings };
+  }
   unfolding apply written written-at touch
   tick-step q k = taken-answer p e q ∙ rw k
 
   -- a taken event of one crossing
   pub own-step : length (p .crossings) ≡ 8 → number p e ≡ 0 → is 0 e ≡ false → step p e ≡ record {
-      number = 0;
-      written = 0;
-      plant = record { site = p .site; beat = p .beat; crossings = set (p .crossings) (e .crossing) (settle (entry p (e .crossing)) 0 (act (entry p (e .crossing)) (crossing p (e .crossing)) e)) };
-    }
+    number = 0;
+    written = 0;
+    plant = record { site = p .site; beat = p .beat; crossings = set (p .crossings) (e .crossing) (settle (entry p (e .crossing)) 0 (act (entry p (e .crossing)) (crossing p (e .crossing)) e)) };
+  }
   unfolding apply written written-at touch
   own-step len q k = taken-answer p e q ∙ simp (k, tab-set 8 (p .crossings) no-crossing (e .crossing) (λ i. settle (entry p i) 0 (act (entry p i) (crossing p i) e)) len)
 

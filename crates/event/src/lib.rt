@@ -1,5 +1,7 @@
 // The event call (document 01, "Events"): any plant, spoilt ones too, and any four bytes.
-use machine::{Answer, Event, Plant};
+use machine::Answer;
+use machine::Event;
+use machine::Plant;
 use verdict::Verdict;
 ghost use mathlib.Core.Path.{_≡_};
 ghost use Rattle.machine.specs.Events.{number};

@@ -1,5 +1,6 @@
 // Settling: once after an event of the crossing's own or a tick, by the phase on entry (document 01, "Events").
-use machine::{Crossing, Entry};
+use machine::Crossing;
+use machine::Entry;
 ghost use mathlib.Core.Path.{_≡_};
 ghost use lib.ListN.{getD};
 ghost use lib.Dec.{ltb};

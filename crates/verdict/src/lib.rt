@@ -1,5 +1,7 @@
 // The verdict on an event: taken, or refused with its number (document 01, "Events", "Numbers at the hut").
-use machine::{Crossing, Entry, Event};
+use machine::Crossing;
+use machine::Entry;
+use machine::Event;
 ghost use mathlib.Core.Path.{_≡_};
 ghost use Prim.Native.Nat.{_≤_};
 ghost use Rattle.machine.specs.Common.{refuse};
@@ -8,13 +10,21 @@ ghost use Rattle.machine.specs.Events.{crossing-limit, place-limit, value-limit
 ghost use Rattle.verdict.specs.Cases.{number-of, verdict, state-refusal};
 
 const UNKNOWN_CODE: u8 = 5;
+
 const UNKNOWN_CROSSING: u8 = 6;
+
 const UNKNOWN_PLACE: u8 = 7;
+
 const UNKNOWN_VALUE: u8 = 8;
+
 const FULL_TRACK: u8 = 9;
+
 const GHOST_PASSAGE: u8 = 10;
+
 const TRAIN_CALLING: u8 = 11;
+
 const NOT_CLEAR: u8 = 12;
+
 const PLAIN_TRACK: u8 = 13;
 
 // The event that is taken, or the number that refuses it.
@@ -111,7 +121,11 @@ fn judge_state(s: Entry, c: Crossing, e: Event) -> Verdict
         2 => refuse_if(trains_at(c, e.place) == 0, GHOST_PASSAGE, e),
         4 => {
             let calling = c.calling;
-            refuse_if((e.value == 0) & settle::any_calling(calling), TRAIN_CALLING, e)
+            refuse_if(
+                (e.value == 0) & settle::any_calling(calling),
+                TRAIN_CALLING,
+                e,
+            )
         }
         5 => {
             let t = e.place as usize;

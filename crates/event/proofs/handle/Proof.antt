@@ -11,46 +11,31 @@ use Rattle.machine.specs.Step.{step}
 use borrow.Author.Needs.{needs}
 use Rattle.event.proofs.handle.Statement.{statement}
 use Rattle.event.proofs.handle.Tie as tie
-use Rattle.event.proofs.handle.Reads as reads
-use Rattle.event.proofs.handle.Lts as lts
-use Rattle.event.proofs.refuse.Reads as refuse-reads
-use Rattle.event.proofs.take.Reads as take-reads
-use Rattle.plant.proofs.in_range.Reads as in-range-reads
-use Rattle.verdict.proofs.judge.Reads as judge-reads
 
--- src/lib.rt:75:8
 in-range-requires : tie.Need-in-range-requires
 in-range-requires c κs = search needs
 
--- src/lib.rt:76:17
 cast-k : tie.Need-cast-k
 cast-k c = search needs
 
--- src/lib.rt:78:17
 mul-s : tie.Need-mul-s
 mul-s c = search needs
 
--- src/lib.rt:78:17
 element-copy-out-s : tie.Need-element-copy-out-s
 element-copy-out-s c = search needs
 
--- src/lib.rt:79:17
 mul-c : tie.Need-mul-c
 mul-c c = search needs
 
--- src/lib.rt:79:17
 element-copy-out-c : tie.Need-element-copy-out-c
 element-copy-out-c c = search needs
 
--- src/lib.rt:80:13
 judge-requires : tie.Need-judge-requires
 judge-requires c κs = search needs
 
--- src/lib.rt:82:27
 enum-known-v : tie.Need-enum-known-v
 enum-known-v c = search needs
 
--- src/lib.rt:82:33
 take-requires : tie.Need-take-requires
 take-requires c κs =
     let a = c .before .before .before .before .before .before .before .before .before .before in
@@ -63,15 +48,12 @@ take-requires c κs =
     let h = taken-by (number p e) e (c .before .v .given .0 .0) (sym j ∙ k) in
     subst (λ x. number p x ≡ 0) (h .1) (h .0)
 
--- src/lib.rt:83:29
 enum-known-v-2 : tie.Need-enum-known-v-2
 enum-known-v-2 c = search needs
 
--- src/lib.rt:83:40
 refuse-requires : tie.Need-refuse-requires
 refuse-requires c κs = search needs
 
--- src/lib.rt:81:9
 returns : tie.Need-returns
 returns c =
     let a = c .before .before .before .before .before .before .before .before .before .before .before in
@@ -84,7 +66,6 @@ returns c =
     let h = taken-by (number p e) e (c .before .before .v .given .0 .0) (sym j ∙ k) in
     c .take .ensures ∙ sym (ap (step p) (h .1))
 
--- src/lib.rt:81:9
 returns-2 : tie.Need-returns-2
 returns-2 c =
     let a = c .before .before .before .before .before .before .before .before .before .before .before in
@@ -97,11 +78,9 @@ returns-2 c =
     let h = refused-by (number p e) (c .before .before .v2 .given .0 .0) e (sym j ∙ k) in
     c .refuse .ensures ∙ sym (rw (h .0) at (refused-answer p e (h .1)))
 
--- src/lib.rt:86:5
 refuse-requires-2 : tie.Need-refuse-requires-2
 refuse-requires-2 c κs = search needs
 
--- src/lib.rt:72:1
 returns-3 : tie.Need-returns-3
 returns-3 c =
     let a = c .before .before .before in

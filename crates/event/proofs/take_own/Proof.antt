@@ -5,35 +5,25 @@ use lib.ListN.{length}
 use native.Mathlib.Omega.{arith}
 use Prim.Native.Nat.{_<_}
 use mathlib.Core.Path.{sym}
-use Rattle.machine.specs.Step.{step}
 use borrow.Author.Needs.{needs}
 use Rattle.event.proofs.take_own.Statement.{statement}
 use Rattle.event.proofs.take_own.Tie as tie
-use Rattle.event.proofs.take_own.Reads as reads
-use Rattle.event.proofs.take_own.Lts as lts
-use Rattle.effect.proofs.apply.Reads as apply-reads
 
--- src/lib.rt:46:13
 cast-k : tie.Need-cast-k
 cast-k c = search needs
 
--- src/lib.rt:48:13
 mul-s : tie.Need-mul-s
 mul-s c = search needs
 
--- src/lib.rt:48:13
 element-copy-out-s : tie.Need-element-copy-out-s
 element-copy-out-s c = let a = c .before .before in own-below _ _ (a .pre .0) (ne-eqb _ _ (a .pre .1))
 
--- src/lib.rt:49:13
 mul-c : tie.Need-mul-c
 mul-c c = search needs
 
--- src/lib.rt:49:13
 element-copy-out-c : tie.Need-element-copy-out-c
 element-copy-out-c c = let a = c .before .before .before in own-below _ _ (a .pre .0) (ne-eqb _ _ (a .pre .1))
 
--- src/lib.rt:50:9
 apply-requires : tie.Need-apply-requires
 apply-requires c κs =
     let a = c .before .before .before .before in
@@ -44,15 +34,12 @@ apply-requires c κs =
     let l : e .crossing < length (p .crossings) = omega (arith, own-below p e (a .pre .0) z) in
     rw (crossing-read (p .crossings) (e .crossing) l) (own-room p e (a .pre .0) z)
 
--- src/lib.rt:52:5
 mul-d : tie.Need-mul-d
 mul-d c = search needs
 
--- src/lib.rt:52:5
 element-set-from-d : tie.Need-element-set-from-d
 element-set-from-d c = let a = c .before .before .before .before .before in own-below _ _ (a .pre .0) (ne-eqb _ _ (a .pre .1))
 
--- src/lib.rt:42:1
 returns : tie.Need-returns
 returns c =
     let a = c .before .before .before .before .before in

@@ -1,19 +1,12 @@
 use Rattle.event.proofs.Steps.{tick-step}
 use Rattle.machine.proofs.Taken.{taken-tests}
 use mathlib.Core.Path.{sym}
-use Rattle.machine.specs.Step.{step}
-use borrow.Author.Needs.{needs}
 use Rattle.event.proofs.take_tick.Statement.{statement}
 use Rattle.event.proofs.take_tick.Tie as tie
-use Rattle.event.proofs.take_tick.Reads as reads
-use Rattle.event.proofs.take_tick.Lts as lts
-use Rattle.tick.proofs.tick_all.Reads as tick-all-reads
 
--- src/lib.rt:28:9
 tick-all-requires : tie.Need-tick-all-requires
 tick-all-requires c κs = taken-tests _ _ (c .before .before .pre .0) .0
 
--- src/lib.rt:22:1
 returns : tie.Need-returns
 returns c = simp (c .before .tick-all .ensures .0) (sym (tick-step _ _ (c .before .before .before .before .pre .0) (c .before .before .before .before .pre .1)))
 
