@@ -2,7 +2,7 @@
 use mathlib.Core.Path.{_≡_, refl, _∙_}
 use mathlib.Core.Bool.{Bool, true, false, cond, not, _&&_}
 use mathlib.Core.List.{List}
-use Prim.Native.Nat.{ℕ, _+_, _-_, pred, _<_}
+use Prim.Native.Nat.{ℕ, _+_, _-_, pred}
 use lib.Dec.{eqb}
 use lib.ListN.{length, getD, set}
 use lib.Seq.{set-getD}
@@ -15,10 +15,10 @@ use Rattle.machine.specs.declared.Entry.{Entry}
 use Rattle.machine.specs.declared.Crossing.{Crossing}
 use Rattle.machine.specs.declared.Event.{Event}
 use Rattle.machine.specs.Common.{tab, bit}
-use Rattle.machine.specs.Plant.{release-ticks, calling, waiting, route, occupied, boom, lamp}
-use Rattle.machine.specs.Events.{is, is-to, is-at}
+use Rattle.machine.specs.Plant.{release-ticks, calling, waiting, route, occupied}
+use Rattle.machine.specs.Events.{is}
 use Rattle.machine.specs.Effects.{calls, calling-after, waiting-after, cancels, act}
-use Rattle.machine.proofs.Tools.{by-test, and-false, and-true, tab-same, tab-getD, tab-set}
+use Rattle.machine.proofs.Tools.{and-false, and-true, tab-same, tab-getD, tab-set}
 
 -- A table that changes at one place ------------------------------------------------------------------------------------------------
 module _ {A : Type 0} (n : ℕ) (l : List A) (d : A) (i : ℕ) (len : length l ≡ n) where
@@ -145,7 +145,7 @@ module _ (s : Entry) (c : Crossing) (e : Event) where
   routed = record {
     calling = set (c .calling) at (calling c at + waiting c at);
     waiting = set (c .waiting) at 0;
-    route = set (c .route) at true;
+    route = set (c .route) at on;
     occupied = c .occupied;
     booms = c .booms;
     lamps = c .lamps;
@@ -157,6 +157,6 @@ module _ (s : Entry) (c : Crossing) (e : Event) where
     out = c .out;
   }
 
-  pub route-set : Sized c → e .code ≡ 5 → e .value ≡ 1 → act s c e ≡ routed
+  pub route-set : Sized c → e .code ≡ 5 → on ≡ true → act s c e ≡ routed
   unfolding cancels
   route-set z k v = simp (act-stores z, k, v)

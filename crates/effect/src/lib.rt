@@ -45,13 +45,13 @@ fn kiosk_hold(s: Entry, c: Crossing, e: Event) -> Crossing
     requires { ⌜ e .code ≡ 3 ⌝ }
     ensures { λ r. ⌜ r ≡ act s c e ⌝ }
 {
+    let kiosk = e.value == 1;
     let mut d = c;
-    if e.value == 1 {
-        d.kiosk = true;
+    d.kiosk = kiosk;
+    if kiosk {
         d.countdown = 0;
         return d;
     }
-    d.kiosk = false;
     d
 }
 
@@ -60,13 +60,13 @@ fn operator_hold(s: Entry, c: Crossing, e: Event) -> Crossing
     requires { ⌜ e .code ≡ 4 ⌝ }
     ensures { λ r. ⌜ r ≡ act s c e ⌝ }
 {
+    let operator = e.value == 1;
     let mut d = c;
-    if e.value == 1 {
-        d.operator = true;
+    d.operator = operator;
+    if operator {
         d.countdown = 0;
         return d;
     }
-    d.operator = false;
     d
 }
 
@@ -76,15 +76,15 @@ fn route(s: Entry, c: Crossing, e: Event) -> Crossing
     ensures { λ r. ⌜ r ≡ act s c e ⌝ }
 {
     let t = e.place as usize;
+    let set = e.value == 1;
     let mut d = c;
-    if e.value == 1 {
-        d.route[t] = true;
+    d.route[t] = set;
+    if set {
         d.calling[t] = c.calling[t] + c.waiting[t];
         d.waiting[t] = 0;
         d.countdown = 0;
         return d;
     }
-    d.route[t] = false;
     d
 }
 
@@ -94,13 +94,13 @@ fn approach(s: Entry, c: Crossing, e: Event) -> Crossing
     ensures { λ r. ⌜ r ≡ act s c e ⌝ }
 {
     let t = e.place as usize;
+    let occupied = e.value == 1;
     let mut d = c;
-    if e.value == 1 {
-        d.occupied[t] = true;
+    d.occupied[t] = occupied;
+    if occupied {
         d.countdown = 0;
         return d;
     }
-    d.occupied[t] = false;
     d
 }
 

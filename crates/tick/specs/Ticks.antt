@@ -1,5 +1,5 @@
 -- What the calls of this crate return, in the machine's words.
-use Prim.Native.Nat.{ℕ, _+_, _%_}
+use Prim.Native.Nat.{_+_, _%_}
 use Rattle.machine.specs.declared.Entry.{Entry}
 use Rattle.machine.specs.declared.Crossing.{Crossing}
 use Rattle.machine.specs.declared.Plant.{Plant}

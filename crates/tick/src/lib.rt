@@ -5,7 +5,6 @@ use machine::Site;
 ghost use mathlib.Core.Bool.{true};
 ghost use mathlib.Core.Path.{_≡_};
 ghost use Prim.Native.Nat.{_+_, _≤_, pred};
-ghost use lib.ListN.{getD};
 ghost use Rattle.machine.specs.Common.{bit};
 ghost use Rattle.machine.specs.Plant.{total};
 ghost use Rattle.machine.specs.Effects.{phase-ticked, timer-ticked, tick, releases};

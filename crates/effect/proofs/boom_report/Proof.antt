@@ -1,4 +1,4 @@
-use mathlib.Core.Path.{_≡_, refl}
+use mathlib.Core.Path.{refl}
 use Rattle.effect.proofs.Taken.{on-four}
 use Rattle.effect.proofs.Stores.{sized, act-stores}
 use Rattle.machine.specs.Effects.{cancels}
@@ -6,18 +6,13 @@ use mathlib.Core.Path.{refl}
 use borrow.Author.Needs.{needs}
 use Rattle.effect.proofs.boom_report.Statement.{statement}
 use Rattle.effect.proofs.boom_report.Tie as tie
-use Rattle.effect.proofs.boom_report.Reads as reads
-use Rattle.effect.proofs.boom_report.Lts as lts
 
--- src/lib.rt:120:13
 cast-b : tie.Need-cast-b
 cast-b c = search needs
 
--- src/lib.rt:122:5
 element-write-d : tie.Need-element-write-d
 element-write-d c = on-four 8 refl (c .before .pre)
 
--- src/lib.rt:116:1
 returns : tie.Need-returns
 unfolding cancels
 returns c =

@@ -1,12 +1,8 @@
 use Rattle.effect.proofs.Stores.{sized, act-stores}
 use Rattle.machine.specs.Effects.{cancels}
-use mathlib.Core.Path.{refl}
 use Rattle.effect.proofs.time_release.Statement.{statement}
 use Rattle.effect.proofs.time_release.Tie as tie
-use Rattle.effect.proofs.time_release.Reads as reads
-use Rattle.effect.proofs.time_release.Lts as lts
 
--- src/lib.rt:106:1
 returns : tie.Need-returns
 unfolding cancels
 returns c =

@@ -1,0 +1,100 @@
+-- One event of the machine as the code takes it: by the entry and the crossing at one place of its arrays.
+use mathlib.Core.Path.{_≡_, sym, _∙_}
+use mathlib.Core.Bool.{true, false}
+use mathlib.Core.List.{List}
+use Prim.Native.Nat.{ℕ, _%_, _≤_, _<_}
+use native.Mathlib.Nat.{mod-eq-of-lt}
+use native.Mathlib.Omega.{arith}
+use lib.Dec.{eqb, ltb, leb}
+use lib.ListN.{length, getD, set, length-map}
+use mir.Val.{Val}
+use denote.Laws.{Is}
+use denote.Struct.Declared.{row}
+use borrow.Author.Tests.{ltb-true, ltb-false, le-leb}
+use Rattle.machine.specs.declared.Entry.{Entry}
+use Rattle.machine.specs.declared.Crossing.{Crossing}
+use Rattle.machine.specs.declared.Plant.{Plant}
+use Rattle.machine.specs.declared.Event.{Event}
+use Rattle.machine.specs.Plant.{no-entry, no-crossing, entry, crossing}
+use Rattle.machine.specs.Range.{in-range}
+use Rattle.machine.specs.Events.{is, crossing-limit, refusal, number}
+use Rattle.machine.specs.Effects.{act, written-at}
+use Rattle.machine.specs.Settling.{settle}
+use Rattle.machine.specs.Step.{touch, apply, written, step}
+use Rattle.machine.proofs.Tools.{by-test, by-cond, tab-set}
+use Rattle.machine.proofs.Plant.{the-type}
+use Rattle.machine.proofs.Ranges.{plant-reads, entry-of}
+use Rattle.machine.proofs.Taken.{taken-answer, taken-tests, taken-crossing}
+use Rattle.plant.proofs.Laws.{unread, crossing-read}
+use Rattle.effect.specs.Room.{Room}
+use Rattle.effect.proofs.Taken.{taken-room}
+use Rattle.tick.specs.Ticks.{ticked-plant}
+
+-- a crossing that the plant lacks is refused before anything is read there
+unknown-at : (n : ℕ) (s z : Entry) (c d : Crossing) (e : Event) → leb (crossing-limit n (e .code)) (e .crossing) ≡ true → refusal n s c e ≡ refusal n z d e
+unfolding refusal
+unknown-at n s z c d e q = rw q
+
+limit-below : (n code : ℕ) → n ≤ 8 → crossing-limit n code ≤ 8
+limit-below n code h = by-cond (λ x. x ≤ 8) (eqb code 0) (λ _. omega arith) (λ _. h)
+
+-- so that the entry and the crossing may be read at the event's crossing modulo 8
+pub refusal-at : (n : ℕ) (entries : List Entry) (crossings : List Crossing) (e : Event) → n ≤ 8 →
+    refusal n (getD entries (e .crossing % 8) no-entry) (getD crossings (e .crossing % 8) no-crossing) e
+    ≡ refusal n (getD entries (e .crossing) no-entry) (getD crossings (e .crossing) no-crossing) e
+refusal-at n entries crossings e h = by-test (ltb (e .crossing) 8)
+    (λ q. let l : e .crossing < 8 = ltb-true _ _ q in rw (mod-eq-of-lt l))
+    (λ q. let l : 8 ≤ e .crossing = ltb-false _ _ q in let m = limit-below n (e .code) h in
+    unknown-at n _ _ _ _ e (le-leb (crossing-limit n (e .code)) (e .crossing) (omega arith)))
+
+-- a plant of the code has eight crossings
+pub eight-crossings : (p : Plant) (vs : List Val) → Is (row the-type) p vs → length (p .crossings) ≡ 8
+eight-crossings p vs i = simp length-map at (i .1 .1 .1 .1 .0 .1 .0 .1)
+
+module _ (p : Plant) (e : Event) where
+  -- in range, the number is the event's own
+  pub number-in-range : in-range p ≡ true → number p e ≡ refusal (p .site .n) (entry p (e .crossing)) (crossing p (e .crossing)) e
+  unfolding number
+  number-in-range q = rw q
+
+  pub number-spoilt : in-range p ≡ false → number p e ≡ 15
+  unfolding number
+  number-spoilt q = rw q
+
+  -- a taken tick
+  pub tick-step : number p e ≡ 0 → e .code ≡ 0 → step p e ≡ record {
+    number = 0;
+    written = ticked-plant p .written;
+    plant = record { site = p .site; beat = ticked-plant p .beat; crossings = ticked-plant p .crossings };
+  }
+  unfolding apply written written-at touch
+  tick-step q k = taken-answer p e q ∙ rw k
+
+  -- a taken event of one crossing
+  pub own-step : length (p .crossings) ≡ 8 → number p e ≡ 0 → is 0 e ≡ false → step p e ≡ record {
+    number = 0;
+    written = 0;
+    plant = record { site = p .site; beat = p .beat; crossings = set (p .crossings) (e .crossing) (settle (entry p (e .crossing)) 0 (act (entry p (e .crossing)) (crossing p (e .crossing)) e)) };
+  }
+  unfolding apply written written-at touch
+  own-step len q k = taken-answer p e q ∙ simp (k, tab-set 8 (p .crossings) no-crossing (e .crossing) (λ i. settle (entry p i) 0 (act (entry p i) (crossing p i) e)) len)
+
+  pub own-below : number p e ≡ 0 → is 0 e ≡ false → e .crossing < 8
+  own-below q k =
+      let n = plant-reads p (taken-tests p e q .0) .count in
+      let l = taken-crossing p e q k in
+      omega arith
+
+  pub own-room : number p e ≡ 0 → is 0 e ≡ false → Room (crossing p (e .crossing)) e
+  own-room q k =
+      let h = plant-reads p (taken-tests p e q .0) in
+      let l = taken-crossing p e q k in
+      taken-room (p .site .n) (entry p (e .crossing)) (crossing p (e .crossing)) e (entry-of h (e .crossing) l) (h .used (e .crossing) l) (taken-tests p e q .1)
+
+  -- what the code asks at the event's crossing modulo 8 is the event's number
+  pub judged : length (p .crossings) ≡ 8 → in-range p ≡ true →
+      refusal (p .site .n) (getD (p .site .entries) (e .crossing % 8) no-entry) (getD (p .crossings) (e .crossing % 8) unread) e ≡ number p e
+  judged len q =
+      let l : e .crossing % 8 < length (p .crossings) = omega arith in
+      rw (crossing-read (p .crossings) (e .crossing % 8) l)
+      (refusal-at (p .site .n) (p .site .entries) (p .crossings) e (plant-reads p q .count) ∙ sym (number-in-range q))

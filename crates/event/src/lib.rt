@@ -1,0 +1,89 @@
+// The event call (document 01, "Events"): any plant, spoilt ones too, and any four bytes.
+use machine::Answer;
+use machine::Event;
+use machine::Plant;
+use verdict::Verdict;
+ghost use mathlib.Core.Path.{_≡_};
+ghost use Rattle.machine.specs.Events.{number};
+ghost use Rattle.machine.specs.Step.{step};
+
+const SPOILT_PLANT: u8 = 15;
+
+// Refused: the number, the plant as it was given and a zero count.
+fn refuse(p: Plant, number: u8) -> Answer
+    ensures { λ r. ⌜ r ≡ record { number = number; written = 0; plant = p } ⌝ }
+{
+    Answer {
+        number,
+        written: 0,
+        plant: p,
+    }
+}
+
+// A tick that is taken. Inside this crate alone.
+fn take_tick(p: Plant, e: Event) -> Answer
+    requires { ⌜ (number p e ≡ 0) × (e .code ≡ 0) ⌝ }
+    ensures { λ r. ⌜ r ≡ step p e ⌝ }
+{
+    let site = p.site;
+    let crossings = p.crossings;
+    let t = tick::tick_all(site, p.beat, crossings);
+    let after = t.crossings;
+    Answer {
+        number: 0,
+        written: t.written,
+        plant: Plant {
+            site,
+            beat: t.beat,
+            crossings: after,
+        },
+    }
+}
+
+// An event of one crossing that is taken: the others stay as they are. Inside this crate alone.
+fn take_own(p: Plant, e: Event) -> Answer
+    requires { ⌜ (number p e ≡ 0) × (e .code ≡ 0 → ⊥) ⌝ }
+    ensures { λ r. ⌜ r ≡ step p e ⌝ }
+{
+    let k = e.crossing as usize;
+    let site = p.site;
+    let s = site.entries[k];
+    let c = p.crossings[k];
+    let d = effect::apply(s, c, e);
+    let mut q = p;
+    q.crossings[k] = d;
+    Answer {
+        number: 0,
+        written: 0,
+        plant: q,
+    }
+}
+
+// An event that is taken. Inside this crate alone.
+fn take(p: Plant, e: Event) -> Answer
+    requires { ⌜ number p e ≡ 0 ⌝ }
+    ensures { λ r. ⌜ r ≡ step p e ⌝ }
+{
+    if e.code == 0 {
+        return take_tick(p, e);
+    }
+    take_own(p, e)
+}
+
+// One event: its number, the trains written off and the plant after it.
+pub fn handle(p: Plant, e: Event) -> Answer
+    ensures { λ r. ⌜ r ≡ step p e ⌝ }
+{
+    if plant::in_range(p) {
+        let k = (e.crossing % 8) as usize;
+        let site = p.site;
+        let s = site.entries[k];
+        let c = p.crossings[k];
+        let v = verdict::judge(site.n, s, c, e);
+        return match v {
+            Verdict::Take(t) => take(p, t),
+            Verdict::Refuse(number) => refuse(p, number),
+        };
+    }
+    refuse(p, SPOILT_PLANT)
+}
