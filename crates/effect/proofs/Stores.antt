@@ -1,0 +1,161 @@
+-- What an event does to a crossing as stores into its arrays, with the code, the place and the value as parameters.
+use mathlib.Core.Path.{_≡_, refl, _∙_}
+use mathlib.Core.Bool.{Bool, true, false, cond, not, _&&_}
+use mathlib.Core.List.{List}
+use Prim.Native.Nat.{ℕ, _+_, _-_, pred, _<_}
+use lib.Dec.{eqb}
+use lib.ListN.{length, getD, set}
+use lib.Seq.{set-getD}
+use mir.Val.{Val}
+use denote.Struct.Declared.{row}
+use denote.Laws.{Is}
+use borrow.Author.Needs.{needs}
+use Rattle.machine.proofs.Crossing.{the-type}
+use Rattle.machine.specs.declared.Entry.{Entry}
+use Rattle.machine.specs.declared.Crossing.{Crossing}
+use Rattle.machine.specs.declared.Event.{Event}
+use Rattle.machine.specs.Common.{tab, bit}
+use Rattle.machine.specs.Plant.{release-ticks, calling, waiting, route, occupied, boom, lamp}
+use Rattle.machine.specs.Events.{is, is-to, is-at}
+use Rattle.machine.specs.Effects.{calls, calling-after, waiting-after, cancels, act}
+use Rattle.machine.proofs.Tools.{by-test, and-false, and-true, tab-same, tab-getD, tab-set}
+
+-- A table that changes at one place ------------------------------------------------------------------------------------------------
+module _ {A : Type 0} (n : ℕ) (l : List A) (d : A) (i : ℕ) (len : length l ≡ n) where
+  -- away from the place, what the test picks does not count
+  elsewhere : (q : Bool) (x : A) {y z : A} → (q ≡ false → y ≡ z) → cond q x y ≡ cond q x z
+  elsewhere true x h = refl
+  elsewhere false x h = h refl
+
+  -- v at place i where b holds, over what else the table does there
+  layer : (b : Bool) (v g : ℕ → A) {m : List A} → ((t : ℕ) → eqb i t ≡ false → g t ≡ getD l t d) → tab n g ≡ m → tab n (λ t. cond (b && eqb i t) (v t) (g t)) ≡ cond b (set l i (v i)) m
+  layer true v g h k = tab-same n _ _ (λ t _. elsewhere (eqb i t) (v t) (h t)) ∙ tab-set n l d i v len
+  layer false v g h k = k
+
+  unchanged : tab n (λ t. getD l t d) ≡ l
+  unchanged = tab-getD n l d len
+
+  stored : (b : Bool) (v : ℕ → A) → tab n (λ t. cond (b && eqb i t) (v t) (getD l t d)) ≡ cond b (set l i (v i)) l
+  stored b v = layer b v (λ t. getD l t d) (λ t _. refl) unchanged
+
+  stored-if : (b w : Bool) (v : ℕ → A) → tab n (λ t. cond (b && eqb i t && w) (v t) (getD l t d)) ≡ cond (b && w) (set l i (v i)) l
+  stored-if true true v = simp and-true (tab-set n l d i v len)
+  stored-if true false v = simp and-false unchanged
+  stored-if false w v = unchanged
+
+  -- a strike-in, a passage, a route set
+  queue : (b1 b2 b5 w : Bool) (v1 v2 v5 : ℕ → A) →
+      tab n (λ t. cond (b1 && eqb i t) (v1 t) (cond (b2 && eqb i t) (v2 t) (cond (b5 && eqb i t && w) (v5 t) (getD l t d))))
+      ≡ cond b1 (set l i (v1 i)) (cond b2 (set l i (v2 i)) (cond (b5 && w) (set l i (v5 i)) l))
+  queue b1 b2 b5 w v1 v2 v5 =
+      layer b1 v1 _ (λ t q. rw (q, and-false b2, and-false b5) refl)
+      (layer b2 v2 _ (λ t q. rw (q, and-false b5) refl)
+      (stored-if b5 w v5))
+
+-- a store of what stands there
+pub set-kept : {A : Type 0} (l : List A) (i : ℕ) (d : A) {v : A} → getD l i d ≡ v → set l i v ≡ l
+set-kept l i d h = rw (← h) (set-getD l i d)
+
+-- A crossing of the code -----------------------------------------------------------------------------------------------------------
+-- its arrays have four and five places
+pub record Sized (c : Crossing) : Type 0 where
+  pub calling : length (c .calling) ≡ 4
+  pub waiting : length (c .waiting) ≡ 4
+  pub route : length (c .route) ≡ 4
+  pub occupied : length (c .occupied) ≡ 4
+  pub booms : length (c .booms) ≡ 4
+  pub lamps : length (c .lamps) ≡ 5
+
+pub sized : (c : Crossing) (vs : List Val) → Is (row the-type) c vs → Sized c
+sized c vs p = record {
+  calling = search (p .1 .1 .0, needs);
+  waiting = search (p .1 .1 .1 .0, needs);
+  route = search (p .1 .1 .1 .1 .0, needs);
+  occupied = search (p .1 .1 .1 .1 .1 .0, needs);
+  booms = search (p .1 .1 .1 .1 .1 .1 .0, needs);
+  lamps = search (p .1 .1 .1 .1 .1 .1 .1 .0, needs);
+}
+
+module _ (s : Entry) (c : Crossing) (e : Event) where
+  abbrev at : ℕ
+  at = e .place
+
+  abbrev on : Bool
+  on = eqb (e .value) 1
+
+  -- the crossing after an event, in stores
+  abbrev pub stores : Crossing
+  stores = record {
+    calling =
+      cond (is 1 e) (set (c .calling) at (calling c at + bit (calls s c at) 1))
+      (cond (is 2 e) (set (c .calling) at (pred (calling c at)))
+      (cond (is 5 e && on) (set (c .calling) at (calling c at + waiting c at))
+      (c .calling)));
+    waiting =
+      cond (is 1 e) (set (c .waiting) at (waiting c at + bit (not (calls s c at)) 1))
+      (cond (is 2 e) (set (c .waiting) at (waiting c at - bit (eqb (calling c at) 0) 1))
+      (cond (is 5 e && on) (set (c .waiting) at 0)
+      (c .waiting)));
+    route = cond (is 5 e) (set (c .route) at on) (c .route);
+    occupied = cond (is 6 e) (set (c .occupied) at on) (c .occupied);
+    booms = cond (is 8 e) (set (c .booms) at (e .value)) (c .booms);
+    lamps = cond (is 9 e) (set (c .lamps) at on) (c .lamps);
+    kiosk = cond (is 3 e) on (c .kiosk);
+    operator = cond (is 4 e) on (c .operator);
+    countdown = cond (is 7 e) release-ticks (cond (cancels e) 0 (c .countdown));
+    phase = c .phase;
+    timer = c .timer;
+    out = c .out;
+  }
+
+  pub act-stores : Sized c → act s c e ≡ stores
+  unfolding act calling-after waiting-after
+  act-stores z = simp (
+    queue 4 (c .calling) 0 at (z .calling) (is 1 e) (is 2 e) (is 5 e) on (λ t. calling c t + bit (calls s c t) 1) (λ t. pred (calling c t)) (λ t. calling c t + waiting c t),
+    queue 4 (c .waiting) 0 at (z .waiting) (is 1 e) (is 2 e) (is 5 e) on (λ t. waiting c t + bit (not (calls s c t)) 1) (λ t. waiting c t - bit (eqb (calling c t) 0) 1) (λ t. 0),
+    stored 4 (c .route) false at (z .route) (is 5 e) (λ t. on),
+    stored 4 (c .occupied) false at (z .occupied) (is 6 e) (λ t. on),
+    stored 4 (c .booms) 0 at (z .booms) (is 8 e) (λ t. e .value),
+    stored 5 (c .lamps) false at (z .lamps) (is 9 e) (λ t. on))
+
+  -- a passage where no train is calling
+  abbrev waited : Crossing
+  waited = record {
+    calling = c .calling;
+    waiting = set (c .waiting) at (waiting c at - 1);
+    route = c .route;
+    occupied = c .occupied;
+    booms = c .booms;
+    lamps = c .lamps;
+    kiosk = c .kiosk;
+    operator = c .operator;
+    countdown = c .countdown;
+    phase = c .phase;
+    timer = c .timer;
+    out = c .out;
+  }
+
+  pub passage-waited : Sized c → e .code ≡ 2 → calling c at ≡ 0 → act s c e ≡ waited
+  unfolding cancels
+  passage-waited z k none = simp (act-stores z, k, none, set-kept (c .calling) at 0 none)
+
+  -- a route set
+  abbrev routed : Crossing
+  routed = record {
+    calling = set (c .calling) at (calling c at + waiting c at);
+    waiting = set (c .waiting) at 0;
+    route = set (c .route) at true;
+    occupied = c .occupied;
+    booms = c .booms;
+    lamps = c .lamps;
+    kiosk = c .kiosk;
+    operator = c .operator;
+    countdown = 0;
+    phase = c .phase;
+    timer = c .timer;
+    out = c .out;
+  }
+
+  pub route-set : Sized c → e .code ≡ 5 → e .value ≡ 1 → act s c e ≡ routed
+  unfolding cancels
+  route-set z k v = simp (act-stores z, k, v)

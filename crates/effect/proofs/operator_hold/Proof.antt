@@ -1,0 +1,26 @@
+use Rattle.effect.proofs.Stores.{sized, act-stores}
+use Rattle.machine.specs.Effects.{cancels}
+use borrow.Author.Tests.{eq-eqb, ne-eqb}
+use Rattle.effect.proofs.operator_hold.Statement.{statement}
+use Rattle.effect.proofs.operator_hold.Tie as tie
+use Rattle.effect.proofs.operator_hold.Reads as reads
+use Rattle.effect.proofs.operator_hold.Lts as lts
+
+-- src/lib.rt:65:9
+returns : tie.Need-returns
+unfolding cancels
+returns c =
+    let a = c .before .before in
+    let z = sized _ _ (a .good .1 .0) in
+    simp (act-stores (a .args .s) (a .args .c) (a .args .e) z, a .pre, c .if1 .taken)
+
+-- src/lib.rt:57:1
+returns-2 : tie.Need-returns-2
+unfolding cancels
+returns-2 c =
+    let a = c .before .before in
+    let z = sized _ _ (a .good .1 .0) in
+    simp (act-stores (a .args .s) (a .args .c) (a .args .e) z, a .pre, ne-eqb _ _ (c .if1 .left))
+
+pub operator-hold-spec : {M : Type 1} → statement M
+operator-hold-spec = tie.close (tie.spec returns returns-2)

@@ -1,0 +1,73 @@
+use mathlib.Core.Path.{sym}
+use Rattle.effect.proofs.Stores.{passage-waited}
+use Rattle.effect.proofs.Stores.{set-kept}
+use lib.Seq.{set-getD}
+use native.Mathlib.Nat.{sub-zero}
+use native.Mathlib.Numerals.{sub-one}
+use native.Mathlib.Omega.{arith}
+use mathlib.Core.Path.{_≡_, refl}
+use Rattle.effect.proofs.Taken.{on-four}
+use Rattle.effect.proofs.Stores.{sized, act-stores}
+use Rattle.machine.specs.Effects.{cancels}
+use borrow.Author.Tests.{eq-eqb, ne-eqb}
+use borrow.Author.Needs.{needs}
+use Rattle.effect.proofs.passage.Statement.{statement}
+use Rattle.effect.proofs.passage.Tie as tie
+use Rattle.effect.proofs.passage.Reads as reads
+use Rattle.effect.proofs.passage.Lts as lts
+
+-- src/lib.rt:30:13
+cast-t : tie.Need-cast-t
+cast-t c = search needs
+
+-- src/lib.rt:32:19
+element-copy-out-calling : tie.Need-element-copy-out-calling
+element-copy-out-calling c = on-four 2 refl (c .before .pre)
+
+-- src/lib.rt:34:24
+element-copy-out-d : tie.Need-element-copy-out-d
+element-copy-out-d c = on-four 2 refl (c .before .before .before .pre)
+
+-- src/lib.rt:34:24
+sub-d : tie.Need-sub-d
+sub-d c = let a = c .before .before .before .before in let m = rw (a .pre .0) at (a .pre .1 .least) in omega arith
+
+-- src/lib.rt:34:9
+element-write-d : tie.Need-element-write-d
+element-write-d c = on-four 2 refl (c .before .before .before .before .pre)
+
+-- src/lib.rt:35:9
+returns : tie.Need-returns
+returns c =
+    let a = c .before .before .before .before in
+    sym (passage-waited (a .args .s) (a .args .t2) (a .args .e) (sized _ _ (a .good .1 .0)) (a .pre .0) (c .before .if1 .taken))
+
+-- src/lib.rt:37:20
+sub-d-2 : tie.Need-sub-d-2
+sub-d-2 c = search needs
+
+-- src/lib.rt:37:5
+element-write-d-2 : tie.Need-element-write-d-2
+element-write-d-2 c = on-four 2 refl (c .before .before .before .pre)
+
+-- src/lib.rt:26:1
+returns-2 : tie.Need-returns-2
+unfolding cancels
+returns-2 c =
+    let a = c .before .before .before in
+    let z = sized _ _ (a .good .1 .0) in
+    simp (act-stores (a .args .s) (a .args .t2) (a .args .e) z, a .pre .0, ne-eqb _ _ (c .if1 .left), sub-one, sub-zero, set-getD)
+
+pub passage-spec : {M : Type 1} → statement M
+passage-spec =
+    tie.close
+    (tie.spec
+    cast-t
+    element-copy-out-calling
+    element-copy-out-d
+    sub-d
+    element-write-d
+    returns
+    sub-d-2
+    element-write-d-2
+    returns-2)

@@ -1,0 +1,164 @@
+// What a taken event of codes 1 to 9 does to its own crossing (document 01, "Events").
+// Each function here is for other functions and crates alone: it requires what a taken event of a crossing in range has.
+use machine::{Crossing, Entry, Event};
+ghost use mathlib.Core.Path.{_≡_};
+ghost use Rattle.machine.specs.Effects.{act};
+ghost use Rattle.machine.specs.Settling.{settle};
+ghost use Rattle.effect.specs.Room.{Room};
+
+// Strike-in: calling + 1 on a plain track or with the route set, otherwise waiting + 1.
+fn strike_in(s: Entry, c: Crossing, e: Event) -> Crossing
+    requires { ⌜ (e .code ≡ 1) × Room c e ⌝ }
+    ensures { λ r. ⌜ r ≡ act s c e ⌝ }
+{
+    let t = e.place as usize;
+    let mut d = c;
+    d.countdown = 0;
+    if !plant::dependent(s, t) | c.route[t] {
+        d.calling[t] = c.calling[t] + 1;
+        return d;
+    }
+    d.waiting[t] = c.waiting[t] + 1;
+    d
+}
+
+// Passage: calling - 1, or waiting - 1 where calling is 0.
+fn passage(s: Entry, c: Crossing, e: Event) -> Crossing
+    requires { ⌜ (e .code ≡ 2) × Room c e ⌝ }
+    ensures { λ r. ⌜ r ≡ act s c e ⌝ }
+{
+    let t = e.place as usize;
+    let mut d = c;
+    let calling = c.calling[t];
+    if calling == 0 {
+        d.waiting[t] = c.waiting[t] - 1;
+        return d;
+    }
+    d.calling[t] = calling - 1;
+    d
+}
+
+// Kiosk hold. A hold on cancels the countdown, a repeat included.
+fn kiosk_hold(s: Entry, c: Crossing, e: Event) -> Crossing
+    requires { ⌜ e .code ≡ 3 ⌝ }
+    ensures { λ r. ⌜ r ≡ act s c e ⌝ }
+{
+    let mut d = c;
+    if e.value == 1 {
+        d.kiosk = true;
+        d.countdown = 0;
+        return d;
+    }
+    d.kiosk = false;
+    d
+}
+
+// Operator hold, in the same way.
+fn operator_hold(s: Entry, c: Crossing, e: Event) -> Crossing
+    requires { ⌜ e .code ≡ 4 ⌝ }
+    ensures { λ r. ⌜ r ≡ act s c e ⌝ }
+{
+    let mut d = c;
+    if e.value == 1 {
+        d.operator = true;
+        d.countdown = 0;
+        return d;
+    }
+    d.operator = false;
+    d
+}
+
+// Route: setting moves all waiting to calling and cancels the countdown; cancelling moves none.
+fn route(s: Entry, c: Crossing, e: Event) -> Crossing
+    requires { ⌜ (e .code ≡ 5) × Room c e ⌝ }
+    ensures { λ r. ⌜ r ≡ act s c e ⌝ }
+{
+    let t = e.place as usize;
+    let mut d = c;
+    if e.value == 1 {
+        d.route[t] = true;
+        d.calling[t] = c.calling[t] + c.waiting[t];
+        d.waiting[t] = 0;
+        d.countdown = 0;
+        return d;
+    }
+    d.route[t] = false;
+    d
+}
+
+// Approach: occupied cancels the countdown.
+fn approach(s: Entry, c: Crossing, e: Event) -> Crossing
+    requires { ⌜ (e .code ≡ 6) × Room c e ⌝ }
+    ensures { λ r. ⌜ r ≡ act s c e ⌝ }
+{
+    let t = e.place as usize;
+    let mut d = c;
+    if e.value == 1 {
+        d.occupied[t] = true;
+        d.countdown = 0;
+        return d;
+    }
+    d.occupied[t] = false;
+    d
+}
+
+// Time release begins, again if running.
+fn time_release(s: Entry, c: Crossing, e: Event) -> Crossing
+    requires { ⌜ e .code ≡ 7 ⌝ }
+    ensures { λ r. ⌜ r ≡ act s c e ⌝ }
+{
+    let mut d = c;
+    d.countdown = Crossing::RELEASE;
+    d
+}
+
+// Boom report.
+fn boom_report(s: Entry, c: Crossing, e: Event) -> Crossing
+    requires { ⌜ (e .code ≡ 8) × Room c e ⌝ }
+    ensures { λ r. ⌜ r ≡ act s c e ⌝ }
+{
+    let b = e.place as usize;
+    let mut d = c;
+    d.booms[b] = e.value;
+    d
+}
+
+// Lamp report.
+fn lamp_report(s: Entry, c: Crossing, e: Event) -> Crossing
+    requires { ⌜ (e .code ≡ 9) × Room c e ⌝ }
+    ensures { λ r. ⌜ r ≡ act s c e ⌝ }
+{
+    let l = e.place as usize;
+    let mut d = c;
+    d.lamps[l] = e.value == 1;
+    d
+}
+
+// The event by its code, before the crossing settles.
+fn act(s: Entry, c: Crossing, e: Event) -> Crossing
+    requires { ⌜ Room c e ⌝ }
+    ensures { λ r. ⌜ r ≡ act s c e ⌝ }
+{
+    let code = e.code;
+    match code {
+        1 => strike_in(s, c, e),
+        2 => passage(s, c, e),
+        3 => kiosk_hold(s, c, e),
+        4 => operator_hold(s, c, e),
+        5 => route(s, c, e),
+        6 => approach(s, c, e),
+        7 => time_release(s, c, e),
+        8 => boom_report(s, c, e),
+        9 => lamp_report(s, c, e),
+        _ => c,
+    }
+}
+
+// What a taken event of codes 1 to 9 makes of its own crossing. For other crates alone: room for the event is what a
+// crossing in range has for an event with number 0 (`taken-room`).
+pub fn apply(s: Entry, c: Crossing, e: Event) -> Crossing
+    requires { ⌜ Room c e ⌝ }
+    ensures { λ r. ⌜ r ≡ settle s 0 (act s c e) ⌝ }
+{
+    settle::settle(s, false, act(s, c, e))
+}

@@ -1,0 +1,83 @@
+-- A record past the last crossing: a tick leaves it as it is, and writes nothing off there.
+use mathlib.Core.Path.{_≡_, refl, _∙_}
+use mathlib.Core.Bool.{Bool, true, false, cond}
+use mathlib.Core.List.{List, [], _∷_}
+use Prim.Native.Nat.{ℕ, zero, suc, _<_}
+use mir.Val.{Val}
+use denote.Array.{each}
+use denote.Shadow.{shadow}
+use denote.Struct.Declared.{row}
+use borrow.Author.Needs.{needs}
+use Rattle.machine.proofs.Crossing.{the-type}
+use lib.Dec.{lit<}
+use lib.ListN.{length, getD}
+use Rattle.machine.specs.declared.Entry.{Entry}
+use Rattle.machine.specs.declared.Crossing.{Crossing}
+use Rattle.machine.specs.Common.{bit}
+use Rattle.machine.specs.declared.Site.{Site}
+use Rattle.machine.specs.Plant.{reason, booms-up, total, no-entry, no-crossing}
+use Rattle.machine.specs.Effects.{tick, releases, phase-ticked, timer-ticked}
+use Rattle.machine.specs.Settling.{settle, phase-settled, timer-settled, out-settled}
+use Rattle.machine.proofs.Tools.{tab-getD}
+use Rattle.machine.proofs.Ranges.{NoCrossing}
+
+-- a crossing of the code has its lists by track at length four
+pub record Tracks (c : Crossing) : Type 0 where
+  pub calling : length (c .calling) ≡ 4
+  pub waiting : length (c .waiting) ≡ 4
+
+pub each-tracks : (l : List Crossing) (us : List Val) (i : ℕ) → shadow (each Crossing (row the-type .own) l us) → Tracks (getD l i no-crossing)
+each-tracks [] us i p = record { calling = refl; waiting = refl }
+each-tracks (x ∷ l) [] i p = absurd p
+each-tracks (x ∷ l) (u ∷ us) zero p = record { calling = search (p, needs); waiting = search (p, needs) }
+each-tracks (x ∷ l) (u ∷ us) (suc i) p = each-tracks l us i (p .1)
+
+abbrev numbered : Crossing → ℕ → ℕ → ℕ → ℕ → Crossing
+numbered c countdown phase timer out = record {
+  calling = c .calling;
+  waiting = c .waiting;
+  route = c .route;
+  occupied = c .occupied;
+  booms = c .booms;
+  lamps = c .lamps;
+  kiosk = c .kiosk;
+  operator = c .operator;
+  countdown = countdown;
+  phase = phase;
+  timer = timer;
+  out = out;
+}
+
+-- a crossing whose four numbers are known
+with-numbers : (c : Crossing) {countdown phase timer out : ℕ} → c .countdown ≡ countdown → c .phase ≡ phase → c .timer ≡ timer → c .out ≡ out → numbered c countdown phase timer out ≡ c
+with-numbers c d p t o = rw (← d, ← p, ← t, ← o)
+
+module _ (s : Entry) (c : Crossing) (h : NoCrossing c) where
+  past-reason : reason c ≡ false
+  unfolding reason
+  past-reason = rw (h .kiosk, h .operator, h .track 0 (lit< tt) .calling, h .track 1 (lit< tt) .calling, h .track 2 (lit< tt) .calling, h .track 3 (lit< tt) .calling)
+
+  -- all its numbers are 0
+  past-numbers : numbered c 0 0 0 0 ≡ c
+  past-numbers = with-numbers c (h .countdown) (h .phase) (h .timer) (h .out)
+
+  past-ticks : Tracks c → tick s c ≡ c
+  unfolding tick phase-ticked timer-ticked
+  past-ticks z = simp (h .countdown, h .phase, h .timer, h .out, tab-getD 4 (c .calling) 0 (z .calling), tab-getD 4 (c .waiting) 0 (z .waiting)) past-numbers
+
+  past-settles : s .kind ≡ 0 → settle s 1 c ≡ c
+  unfolding settle phase-settled timer-settled out-settled booms-up
+  past-settles none = simp (past-reason, none, h .countdown, h .phase, h .timer, h .out) past-numbers
+
+  pub past-stays : s .kind ≡ 0 → Tracks c → settle s 1 (tick s c) ≡ c
+  past-stays none z = rw (past-ticks z) (past-settles none)
+
+  pub past-written : bit (releases c) (total c) ≡ 0
+  past-written = rw (h .countdown)
+
+-- what a tick makes of place i, and what it writes off there
+abbrev pub next-at : Site → List Crossing → ℕ → Crossing
+next-at site l i = settle (getD (site .entries) i no-entry) 1 (tick (getD (site .entries) i no-entry) (getD l i no-crossing))
+
+abbrev pub written-off : List Crossing → ℕ → ℕ
+written-off l i = bit (releases (getD l i no-crossing)) (total (getD l i no-crossing))

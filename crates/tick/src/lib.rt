@@ -1,0 +1,146 @@
+// A tick: one crossing's, and that of the whole plant (document 01, "Events").
+use machine::{Crossing, Entry, Site};
+ghost use mathlib.Core.Bool.{true};
+ghost use mathlib.Core.Path.{_≡_};
+ghost use Prim.Native.Nat.{_+_, _≤_, pred};
+ghost use lib.ListN.{getD};
+ghost use Rattle.machine.specs.Common.{bit};
+ghost use Rattle.machine.specs.Plant.{total};
+ghost use Rattle.machine.specs.Effects.{phase-ticked, timer-ticked, tick, releases};
+ghost use Rattle.machine.specs.Range.{in-range};
+ghost use Rattle.tick.specs.Ticks.{ticked-crossing, ticked-plant};
+
+// One crossing after a tick, and the trains written off there.
+pub struct Ticked {
+    pub crossing: Crossing,
+    pub written: u32,
+}
+
+// The whole plant after a tick, but for its site, and the trains written off.
+pub struct Ticks {
+    pub beat: u8,
+    pub crossings: [Crossing; 8],
+    pub written: u32,
+}
+
+// The phase after a tick: timer at 0 goes from 1 to 2 for kind 4, otherwise to 3, and from 2 to 3.
+fn phase_ticked(s: Entry, phase: u8, timer: u16) -> u8
+    ensures { λ r. ⌜ r ≡ phase-ticked s phase timer ⌝ }
+{
+    if timer == 1 {
+        if (phase == 1) & (s.kind == 4) {
+            return 2;
+        }
+        return 3;
+    }
+    phase
+}
+
+// The timer after a tick: G where phase 2 begins.
+fn timer_ticked(s: Entry, phase: u8, timer: u16) -> u16
+    ensures { λ r. ⌜ r ≡ timer-ticked s phase timer ⌝ }
+{
+    if timer == 1 {
+        if (phase == 1) & (s.kind == 4) {
+            return s.gap;
+        }
+        return 0;
+    }
+    lowered(timer)
+}
+
+// A running count, lowered by 1.
+fn lowered(count: u16) -> u16
+    ensures { λ r. ⌜ r ≡ pred count ⌝ }
+{
+    if 0 < count { count - 1 } else { 0 }
+}
+
+// The countdown, then the timer, by 1; a countdown that reaches 0 clears the trains of the crossing.
+fn run_down(s: Entry, c: Crossing) -> Crossing
+    ensures { λ r. ⌜ r ≡ tick s c ⌝ }
+{
+    let phase = phase_ticked(s, c.phase, c.timer);
+    let timer = timer_ticked(s, c.phase, c.timer);
+    let countdown = lowered(c.countdown);
+    let mut d = c;
+    d.phase = phase;
+    d.timer = timer;
+    d.countdown = countdown;
+    if c.countdown == 1 {
+        d.calling = [0; 4];
+        d.waiting = [0; 4];
+        return d;
+    }
+    d
+}
+
+// The trains of one track.
+fn trains(calling: u8, waiting: u8) -> u32
+    ensures { λ r. ⌜ r ≡ calling + waiting ⌝ }
+    ensures { λ r. ⌜ r ≤ 510 ⌝ }
+{
+    (calling as u32) + (waiting as u32)
+}
+
+// The trains of a crossing.
+fn total(c: Crossing) -> u32
+    ensures { λ r. ⌜ r ≡ total c ⌝ }
+    ensures { λ r. ⌜ r ≤ 2040 ⌝ }
+{
+    trains(c.calling[0], c.waiting[0])
+        + trains(c.calling[1], c.waiting[1])
+        + trains(c.calling[2], c.waiting[2])
+        + trains(c.calling[3], c.waiting[3])
+}
+
+// The trains that a tick writes off: all of the crossing where its countdown reaches 0.
+fn written(c: Crossing) -> u32
+    ensures { λ r. ⌜ r ≡ bit (releases c) (total c) ⌝ }
+    ensures { λ r. ⌜ r ≤ 2040 ⌝ }
+{
+    if c.countdown == 1 {
+        return total(c);
+    }
+    0
+}
+
+// One crossing's tick: it runs down and settles.
+pub fn tick(s: Entry, c: Crossing) -> Ticked
+    ensures { λ r. ⌜ r ≡ ticked-crossing s c ⌝ }
+    ensures { λ r. ⌜ r .written ≤ 2040 ⌝ }
+{
+    let off = written(c);
+    let crossing = settle::settle(s, true, run_down(s, c));
+    Ticked {
+        crossing,
+        written: off,
+    }
+}
+
+// A tick of the whole plant: the beat, then each crossing. For other crates alone, since it requires a plant in range:
+// a record past the last crossing is all zero, and a tick leaves it so.
+pub fn tick_all(site: Site, beat: u8, crossings: [Crossing; 8]) -> Ticks
+    requires { ⌜ in-range (record { site = site; beat = beat; crossings = crossings }) ≡ true ⌝ }
+    ensures { λ r. ⌜ r ≡ ticked-plant (record { site = site; beat = beat; crossings = crossings }) ⌝ }
+    ensures { λ r. ⌜ r .written ≤ 16320 ⌝ }
+{
+    let n = site.n as usize;
+    let mut next = crossings;
+    let mut written: u32 = 0;
+    let mut i: usize = 0;
+    while i < n {
+        let s = site.entries[i];
+        let c = next[i];
+        let t = tick(s, c);
+        let d = t.crossing;
+        next[i] = d;
+        written += t.written;
+        i += 1;
+    }
+    Ticks {
+        beat: (beat + 1) % 4,
+        crossings: next,
+        written,
+    }
+}

@@ -1,0 +1,114 @@
+use Rattle.verdict.specs.Cases.{state-refusal}
+use borrow.Author.Tests.{ne-eqb}
+use borrow.Author.Needs.{needs}
+use Rattle.verdict.proofs.judge_state.Statement.{statement}
+use Rattle.verdict.proofs.judge_state.Tie as tie
+use Rattle.verdict.proofs.judge_state.Reads as reads
+use Rattle.verdict.proofs.judge_state.Lts as lts
+use Rattle.plant.proofs.dependent.Reads as dependent-reads
+use Rattle.settle.proofs.any_calling.Reads as any-calling-reads
+use Rattle.verdict.proofs.blocked.Reads as blocked-reads
+use Rattle.verdict.proofs.refuse_if.Reads as refuse-if-reads
+use Rattle.verdict.proofs.trains_at.Reads as trains-at-reads
+use Rattle.verdict.proofs.wide.Reads as wide-reads
+
+-- src/lib.rt:110:24
+wide-requires : tie.Need-wide-requires
+wide-requires c κs = search needs
+
+-- src/lib.rt:110:48
+trains-at-requires : tie.Need-trains-at-requires
+trains-at-requires c κs = search needs
+
+-- src/lib.rt:110:14
+refuse-if-requires : tie.Need-refuse-if-requires
+refuse-if-requires c κs = search needs
+
+-- src/lib.rt:111:24
+trains-at-requires-2 : tie.Need-trains-at-requires-2
+trains-at-requires-2 c κs = search needs
+
+-- src/lib.rt:111:14
+refuse-if-requires-2 : tie.Need-refuse-if-requires-2
+refuse-if-requires-2 c κs = search needs
+
+-- src/lib.rt:114:40
+any-calling-requires : tie.Need-any-calling-requires
+any-calling-requires c κs = search needs
+
+-- src/lib.rt:114:13
+refuse-if-requires-3 : tie.Need-refuse-if-requires-3
+refuse-if-requires-3 c κs = search needs
+
+-- src/lib.rt:117:21
+cast-t : tie.Need-cast-t
+cast-t c = search needs
+
+-- src/lib.rt:118:24
+dependent-requires : tie.Need-dependent-requires
+dependent-requires c κs = search needs
+
+-- src/lib.rt:118:13
+refuse-if-requires-4 : tie.Need-refuse-if-requires-4
+refuse-if-requires-4 c κs = search needs
+
+-- src/lib.rt:120:24
+blocked-requires : tie.Need-blocked-requires
+blocked-requires c κs = search needs
+
+-- src/lib.rt:120:14
+refuse-if-requires-5 : tie.Need-refuse-if-requires-5
+refuse-if-requires-5 c κs = search needs
+
+-- src/lib.rt:105:1
+returns : tie.Need-returns
+unfolding state-refusal
+returns c = simp (c .refuse-if .ensures, c .before .trains-at .ensures, c .before .before .wide .ensures .0, c .before .before .before .match .keys1)
+
+-- src/lib.rt:105:1
+returns-2 : tie.Need-returns-2
+unfolding state-refusal
+returns-2 c = simp (c .refuse-if2 .ensures, c .before .trains-at2 .ensures, c .before .before .match .keys2)
+
+-- src/lib.rt:105:1
+returns-3 : tie.Need-returns-3
+unfolding state-refusal
+returns-3 c = simp (c .refuse-if3 .ensures, c .before .any-calling .ensures, c .before .before .before .before .match .keys3)
+
+-- src/lib.rt:105:1
+returns-4 : tie.Need-returns-4
+unfolding state-refusal
+returns-4 c = simp (c .refuse-if4 .ensures, c .before .dependent .ensures, c .before .before .before .match .keys4)
+
+-- src/lib.rt:105:1
+returns-5 : tie.Need-returns-5
+unfolding state-refusal
+returns-5 c = simp (c .refuse-if5 .ensures, c .before .blocked .ensures, c .before .before .match .keys5)
+
+-- src/lib.rt:105:1
+returns-6 : tie.Need-returns-6
+unfolding state-refusal
+returns-6 c = simp (ne-eqb _ _ (c .match .rest .1), ne-eqb _ _ (c .match .rest .0 .1), ne-eqb _ _ (c .match .rest .0 .0 .1), ne-eqb _ _ (c .match .rest .0 .0 .0 .1), ne-eqb _ _ (c .match .rest .0 .0 .0 .0 .1))
+
+pub judge-state-spec : {M : Type 1} → statement M
+judge-state-spec =
+    tie.close
+    (tie.spec
+    wide-requires
+    trains-at-requires
+    refuse-if-requires
+    trains-at-requires-2
+    refuse-if-requires-2
+    any-calling-requires
+    refuse-if-requires-3
+    cast-t
+    dependent-requires
+    refuse-if-requires-4
+    blocked-requires
+    refuse-if-requires-5
+    returns
+    returns-2
+    returns-3
+    returns-4
+    returns-5
+    returns-6)

@@ -1,0 +1,144 @@
+// The verdict on an event: taken, or refused with its number (document 01, "Events", "Numbers at the hut").
+use machine::{Crossing, Entry, Event};
+ghost use mathlib.Core.Path.{_≡_};
+ghost use Prim.Native.Nat.{_≤_};
+ghost use Rattle.machine.specs.Common.{refuse};
+ghost use Rattle.machine.specs.Plant.{trains};
+ghost use Rattle.machine.specs.Events.{crossing-limit, place-limit, value-limit, blocked, refusal};
+ghost use Rattle.verdict.specs.Cases.{number-of, verdict, state-refusal};
+
+const UNKNOWN_CODE: u8 = 5;
+const UNKNOWN_CROSSING: u8 = 6;
+const UNKNOWN_PLACE: u8 = 7;
+const UNKNOWN_VALUE: u8 = 8;
+const FULL_TRACK: u8 = 9;
+const GHOST_PASSAGE: u8 = 10;
+const TRAIN_CALLING: u8 = 11;
+const NOT_CLEAR: u8 = 12;
+const PLAIN_TRACK: u8 = 13;
+
+// The event that is taken, or the number that refuses it.
+pub enum Verdict {
+    Take(Event),
+    Refuse(u8),
+}
+
+// The event's crossing is below this: a tick is of the whole plant.
+fn crossing_limit(n: u8, code: u8) -> u8
+    ensures { λ r. ⌜ r ≡ crossing-limit n code ⌝ }
+{
+    if code == 0 { 1 } else { n }
+}
+
+// The event's place is below this: a track, a boom or a lamp.
+fn place_limit(s: Entry, code: u8) -> u8
+    ensures { λ r. ⌜ r ≡ place-limit s code ⌝ }
+{
+    match code {
+        1 => s.tracks,
+        2 => s.tracks,
+        5 => s.tracks,
+        6 => s.tracks,
+        8 => plant::boom_count(s.kind),
+        9 => 5,
+        _ => 1,
+    }
+}
+
+// The event's value is below this.
+fn value_limit(code: u8) -> u8
+    ensures { λ r. ⌜ r ≡ value-limit code ⌝ }
+{
+    match code {
+        3 => 2,
+        4 => 2,
+        5 => 2,
+        6 => 2,
+        8 => 3,
+        9 => 2,
+        _ => 1,
+    }
+}
+
+fn wide(x: u8) -> u16
+    ensures { λ r. ⌜ r ≡ x ⌝ }
+    ensures { λ r. ⌜ r ≤ 255 ⌝ }
+{
+    x as u16
+}
+
+// The trains of the track at a place; none at a place that is no track.
+fn trains_at(c: Crossing, place: u8) -> u16
+    ensures { λ r. ⌜ r ≡ trains c place ⌝ }
+{
+    let t = place as usize;
+    if t < 4 {
+        return wide(c.calling[t]) + wide(c.waiting[t]);
+    }
+    0
+}
+
+// A hold is on, a route is set or an approach is occupied.
+fn blocked(c: Crossing) -> bool
+    ensures { λ r. ⌜ r ≡ blocked c ⌝ }
+{
+    c.kiosk
+        | c.operator
+        | ((c.route[0] | c.occupied[0])
+            | (c.route[1] | c.occupied[1])
+            | (c.route[2] | c.occupied[2])
+            | (c.route[3] | c.occupied[3]))
+}
+
+// Taken unless the test holds. Inside this crate alone: a number that refuses is not 0.
+fn refuse_if(refused: bool, number: u8, e: Event) -> Verdict
+    requires { ⌜ 1 ≤ number ⌝ }
+    ensures { λ r. ⌜ r ≡ verdict (refuse refused number 0) e ⌝ }
+{
+    if refused {
+        return Verdict::Refuse(number);
+    }
+    Verdict::Take(e)
+}
+
+// An event of the table, by what its crossing holds: 13, then 9 to 12.
+fn judge_state(s: Entry, c: Crossing, e: Event) -> Verdict
+    ensures { λ r. ⌜ r ≡ verdict (state-refusal s c e) e ⌝ }
+{
+    let code = e.code;
+    match code {
+        1 => refuse_if(wide(Crossing::FULL) <= trains_at(c, e.place), FULL_TRACK, e),
+        2 => refuse_if(trains_at(c, e.place) == 0, GHOST_PASSAGE, e),
+        4 => {
+            let calling = c.calling;
+            refuse_if((e.value == 0) & settle::any_calling(calling), TRAIN_CALLING, e)
+        }
+        5 => {
+            let t = e.place as usize;
+            refuse_if(!plant::dependent(s, t), PLAIN_TRACK, e)
+        }
+        7 => refuse_if(blocked(c), NOT_CLEAR, e),
+        _ => Verdict::Take(e),
+    }
+}
+
+// The verdict on an event of a plant of n crossings; s and c are those of the event's own crossing. Any four bytes, any
+// settings and any crossing, spoilt ones too.
+pub fn judge(n: u8, s: Entry, c: Crossing, e: Event) -> Verdict
+    ensures { λ r. ⌜ r ≡ verdict (refusal n s c e) e ⌝ }
+    ensures { λ r. ⌜ number-of r ≡ refusal n s c e ⌝ }
+{
+    if 9 < e.code {
+        return Verdict::Refuse(UNKNOWN_CODE);
+    }
+    if crossing_limit(n, e.code) <= e.crossing {
+        return Verdict::Refuse(UNKNOWN_CROSSING);
+    }
+    if place_limit(s, e.code) <= e.place {
+        return Verdict::Refuse(UNKNOWN_PLACE);
+    }
+    if value_limit(e.code) <= e.value {
+        return Verdict::Refuse(UNKNOWN_VALUE);
+    }
+    judge_state(s, c, e)
+}
