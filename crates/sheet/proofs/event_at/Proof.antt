@@ -3,50 +3,37 @@ use Rattle.machine.specs.Sheet.{sheet-event}
 use borrow.Author.Needs.{needs}
 use Rattle.sheet.proofs.event_at.Statement.{statement}
 use Rattle.sheet.proofs.event_at.Tie as tie
-use Rattle.sheet.proofs.event_at.Reads as reads
-use Rattle.sheet.proofs.event_at.Lts as lts
 
--- src/lib.rt:52:18
 add-triple : tie.Need-add-triple
 add-triple c = search needs
 
--- src/lib.rt:52:26
 mul-triple : tie.Need-mul-triple
 mul-triple c = search needs
 
--- src/lib.rt:52:18
 add-triple-2 : tie.Need-add-triple-2
 add-triple-2 c = search needs
 
--- src/lib.rt:54:21
 add-t5 : tie.Need-add-t5
 add-t5 c = search needs
 
--- src/lib.rt:54:15
 shared-slice-read-t8 : tie.Need-shared-slice-read-t8
 shared-slice-read-t8 c = search needs
 
--- src/lib.rt:55:19
 shared-slice-read-t10 : tie.Need-shared-slice-read-t10
 shared-slice-read-t10 c = search needs
 
--- src/lib.rt:56:22
 add-t6 : tie.Need-add-t6
 add-t6 c = search needs
 
--- src/lib.rt:56:16
 shared-slice-read-t12 : tie.Need-shared-slice-read-t12
 shared-slice-read-t12 c = search needs
 
--- src/lib.rt:57:22
 add-t13 : tie.Need-add-t13
 add-t13 c = search needs
 
--- src/lib.rt:57:16
 shared-slice-read-t15 : tie.Need-shared-slice-read-t15
 shared-slice-read-t15 c = search needs
 
--- src/lib.rt:48:1
 returns : tie.Need-returns
 unfolding sheet-event
 returns c = rw (← c .before .before .before .before .pre .0)
