@@ -13,7 +13,7 @@ ghost use Prim.Native.Nat.{_+_, _*_, _≤_, _<_};
 ghost use lib.Dec.{ltb};
 ghost use lib.ListN.{length};
 ghost use lib.Seq.{sets};
-ghost use Rattle.machine.specs.Common.{all-below, high, low};
+ghost use Rattle.machine.specs.Common.{all-below, high, low, refuse};
 ghost use Rattle.machine.specs.Plant.{no-entry};
 ghost use Rattle.machine.specs.Range.{entry-in, entry-zero};
 ghost use Rattle.machine.specs.SiteBook.{
@@ -87,7 +87,14 @@ fn entries_in(b: &[u8]) -> bool
     ok
 }
 
-// The number of a book: 1 if empty, 2, 1, 3; 0 where it is taken.
+// The number where the test holds, otherwise what the later tests give.
+fn refuse(test: bool, number: u8, rest: u8) -> u8
+    ensures { λ r. ⌜ r ≡ refuse test number rest ⌝ }
+{
+    if test { number } else { rest }
+}
+
+// The number of a book: 1 if empty, 2, 1, 3; 0 where it is taken. Entries are looked at in a book of the right length alone.
 fn read_number(b: &[u8]) -> u8
     ensures { λ r. ⌜ r ≡ read-number (now (b .entry)) ⌝ }
 {
@@ -95,17 +102,13 @@ fn read_number(b: &[u8]) -> u8
         return BAD_LENGTH;
     }
     let size = b[0];
-    if count_in(size) {
-        let n = size as usize;
-        if b.len() == 1 + 7 * n {
-            if entries_in(b) {
-                return 0;
-            }
-            return BAD_SETTING;
-        }
-        return BAD_LENGTH;
+    let n = size as usize;
+    let counted = count_in(size);
+    if b.len() == 1 + 7 * n {
+        let ranged = entries_in(b);
+        return refuse(!counted, BAD_COUNT, refuse(!ranged, BAD_SETTING, 0));
     }
-    BAD_COUNT
+    refuse(!counted, BAD_COUNT, BAD_LENGTH)
 }
 
 // An all-zero entry.
@@ -196,26 +199,25 @@ fn settings_in(s: Site) -> bool
 fn write_number(s: Site, out: &[u8]) -> u8
     ensures { λ r. ⌜ r ≡ write-number s (now (out .entry)) ⌝ }
 {
-    let n = s.n;
-    if count_in(n) {
-        if settings_in(s) {
-            let count = n as usize;
-            if out.len() == 1 + 7 * count {
-                return 0;
-            }
-            return BAD_OUTPUT;
-        }
-        return BAD_SETTING;
-    }
-    BAD_COUNT
+    let n = s.n as usize;
+    let counted = count_in(s.n);
+    let ranged = settings_in(s);
+    let fits = out.len() == 1 + 7 * n;
+    refuse(
+        !counted,
+        BAD_COUNT,
+        refuse(!ranged, BAD_SETTING, refuse(!fits, BAD_OUTPUT, 0)),
+    )
 }
 
+// The low byte of a number of 16 bits.
 fn low(x: u16) -> u8
     ensures { λ r. ⌜ r ≡ low x ⌝ }
 {
     (x % 256) as u8
 }
 
+// Its high byte.
 fn high(x: u16) -> u8
     ensures { λ r. ⌜ r ≡ high x ⌝ }
 {
@@ -286,12 +288,12 @@ pub fn write(s: Site, out: &mut [u8]) -> u8
     ensures { λ r. ⌜ r ≡ write-number s (now (out .entry)) ⌝ }
     ensures { λ _. ⌜ now (out .exit) ≡ written-book s (now (out .entry)) ⌝ }
 {
-    let number = write_number(s, &out[..]);
-    if number == 0 {
+    let refusal = write_number(s, &out[..]);
+    if refusal == 0 {
         put_book(s, out);
         return 0;
     }
-    number
+    refusal
 }
 
 // Both in turn --------------------------------------------------------------------------------------------------------------------
@@ -302,13 +304,13 @@ pub fn copy(b: &[u8], out: &mut [u8]) -> u8
     ensures { λ _. ⌜ now (out .exit) ≡ copied (now (b .entry)) (now (out .entry)) ⌝ }
 {
     let reading = read(b);
-    let number = reading.number;
-    if number == 0 {
+    let found = reading.number;
+    if found == 0 {
         let plant = reading.plant;
         let site = plant.site;
         return write(site, out);
     }
-    number
+    found
 }
 
 // Settings written, and the book read back: where the settings are taken, the fresh plant is that of the same settings.
@@ -316,11 +318,14 @@ pub fn reread(s: Site, out: &mut [u8]) -> Reading
     ensures { λ r. ⌜ r ≡ reread s (now (out .entry)) ⌝ }
     ensures { λ _. ⌜ now (out .exit) ≡ written-book s (now (out .entry)) ⌝ }
 {
-    let number = write(s, out);
-    if number == 0 {
+    let written = write(s, out);
+    if written == 0 {
         return read(&out[..]);
     }
     let site = no_site();
     let plant = Plant::fresh(site);
-    Reading { number, plant }
+    Reading {
+        number: written,
+        plant,
+    }
 }
