@@ -64,11 +64,12 @@ fn run_down(s: Entry, c: Crossing) -> Crossing
     let phase = phase_ticked(s, c.phase, c.timer);
     let timer = timer_ticked(s, c.phase, c.timer);
     let countdown = lowered(c.countdown);
+    let releases = c.countdown == 1;
     let mut d = c;
     d.phase = phase;
     d.timer = timer;
     d.countdown = countdown;
-    if c.countdown == 1 {
+    if releases {
         d.calling = [0; 4];
         d.waiting = [0; 4];
         return d;

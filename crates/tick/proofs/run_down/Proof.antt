@@ -1,7 +1,6 @@
 use Rattle.machine.proofs.Tools.{tab-getD}
 use mathlib.Core.Path.{_≡_}
 use lib.ListN.{length}
-use borrow.Author.Tests.{eq-eqb, ne-eqb}
 use Rattle.machine.specs.Effects.{tick}
 use borrow.Author.Needs.{needs}
 use Rattle.tick.proofs.run_down.Statement.{statement}
@@ -18,7 +17,7 @@ lowered-requires c κs = search needs
 
 returns : tie.Need-returns
 unfolding tick
-returns c = simp (eq-eqb _ _ (c .before .before .if1 .taken), c .before .before .before .before .lowered .ensures, c .before .before .before .before .before .timer-ticked .ensures, c .before .before .before .before .before .before .phase-ticked .ensures)
+returns c = simp (c .before .before .if1 .taken, c .before .before .before .before .lowered .ensures, c .before .before .before .before .before .timer-ticked .ensures, c .before .before .before .before .before .before .phase-ticked .ensures)
 
 returns-2 : tie.Need-returns-2
 unfolding tick
@@ -26,7 +25,7 @@ returns-2 c =
     let a = c .before .before .before .before .before in
     let k : length (a .args .c .calling) ≡ 4 = search (a .good, needs) in
     let w : length (a .args .c .waiting) ≡ 4 = search (a .good, needs) in
-    simp (ne-eqb _ _ (c .if1 .left), c .before .before .lowered .ensures, c .before .before .before .timer-ticked .ensures, c .before .before .before .before .phase-ticked .ensures, tab-getD 4 (a .args .c .calling) 0 k, tab-getD 4 (a .args .c .waiting) 0 w)
+    simp (c .if1 .left, c .before .before .lowered .ensures, c .before .before .before .timer-ticked .ensures, c .before .before .before .before .phase-ticked .ensures, tab-getD 4 (a .args .c .calling) 0 k, tab-getD 4 (a .args .c .waiting) 0 w)
 
 pub run-down-spec : {M : Type 1} → statement M
 run-down-spec =
