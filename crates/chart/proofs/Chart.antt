@@ -53,11 +53,9 @@ closed = closing ++ reports 2 2
 abbrev queue-phase : List ℕ → List Event → List ℕ
 queue-phase book es = getD (shown book es) 14 0 ∷ getD (shown book es) 12 0 ∷ getD (shown book es) 10 0 ∷ []
 
--- kind 1 after a strike-in, a release and n ticks: written off, then phase
-abbrev release : ℕ → List ℕ
-release n =
-    let es = strike-in ∷ ev 7 0 0 ∷ replicate n a-tick in
-    carried (read (site 1 0) .plant) es ∷ getD (shown (site 1 0) es) 10 0 ∷ []
+-- kind 1: a strike-in, a release and n ticks
+abbrev release : ℕ → List Event
+release n = strike-in ∷ ev 7 0 0 ∷ replicate n a-tick
 
 pub record Chart : Type 0 where
   pub fresh : shown (site 3 0) [] ≡ 1 ∷ 13 ∷ 0 ∷ 0 ∷ 0 ∷ 0 ∷ 1 ∷ 1 ∷ 0 ∷ 1 ∷ 0 ∷ 0 ∷ 0 ∷ 0 ∷ 0 ∷ 0 ∷ []
@@ -70,14 +68,15 @@ pub record Chart : Type 0 where
   pub again-timer : crossing (after (read (site 3 0) .plant) (closed ++ passage ∷ strike-in ∷ reports 0 0)) 0 .timer ≡ 2
   pub waits : queue-phase (site 3 1) (strike-in ∷ []) ≡ 1 ∷ 0 ∷ 0 ∷ []
   pub route-set : queue-phase (site 3 1) (strike-in ∷ ev 5 0 1 ∷ []) ≡ 0 ∷ 1 ∷ 1 ∷ []
-  pub release-269 : release 269 ≡ 0 ∷ 3 ∷ []
-  pub release-270 : release 270 ≡ 1 ∷ 0 ∷ []
   pub both-moving : phase-signal (site 2 0) (closing ++ reports 1 1) ≡ 3 ∷ 2 ∷ []
   pub one-up : phase-signal (site 2 0) (closing ++ reports 1 0) ≡ 3 ∷ 1 ∷ []
   pub red-dead-road : getD (shown (site 3 0) (closed ++ ev 9 1 0 ∷ [])) 0 0 ≡ 0
   pub red-dead-stop : phase-signal (site 3 0) (closed ++ ev 9 1 0 ∷ []) ≡ 3 ∷ 1 ∷ []
   pub one-tick : getD (shown (site 3 0) (a-tick ∷ [])) 1 0 ≡ 0
   pub flasher-dead : getD (shown (site 3 0) (ev 9 4 0 ∷ a-tick ∷ [])) 1 0 ≡ 13
+  pub release-269 : carried (read (site 1 0) .plant) (release 269) ≡ 0
+  pub release-270 : carried (read (site 1 0) .plant) (release 270) ≡ 1
+  pub released : getD (shown (site 1 0) (release 270)) 10 0 ≡ 0
 
 pub chart : Chart
 unfolding fresh-plant dependent reason booms-up booms-down booms-closed normal secured entry-in entry-zero track-in phase-in crossing-in crossing-zero place-in in-range place-limit value-limit refusal number calling-after waiting-after cancels act phase-ticked timer-ticked tick written-at phase-settled timer-settled out-settled settle touch apply written step after carried road signal distant rhythm lit bell boom-lamps right-down left-down released releases-shown status holds row panel book-entry book-site read-number read
@@ -92,12 +91,13 @@ chart = record {
   again-timer = refl;
   waits = refl;
   route-set = refl;
-  release-269 = refl;
-  release-270 = refl;
   both-moving = refl;
   one-up = refl;
   red-dead-road = refl;
   red-dead-stop = refl;
   one-tick = refl;
   flasher-dead = refl;
+  release-269 = refl;
+  release-270 = refl;
+  released = refl;
 }

@@ -4,3 +4,4 @@ pub mod Taken
 pub mod Ranges
 pub mod Stays
 pub mod Laws
+pub mod Limits

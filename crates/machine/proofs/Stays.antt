@@ -77,7 +77,7 @@ module _ (s : Entry) (g : EntryIn s) where
   -- One crossing ---------------------------------------------------------------------------------------------------------------------
   out-law : (normal : Bool) (add out : ℕ) → add ≤ 1 → out-settled normal add out ≤ suc overdue-ticks
   unfolding out-settled
-  out-law normal add out l = by-cond (λ x. x ≤ 901) normal (λ _. omega arith) (λ _. by-cond (λ x. x ≤ 901) (leb out 900) (λ t. omega (arith, leb-true)) (λ _. omega arith))
+  out-law normal add out l = by-cond (λ x. x ≤ suc overdue-ticks) normal (λ _. omega arith) (λ _. by-cond (λ x. x ≤ suc overdue-ticks) (leb out overdue-ticks) (λ t. omega (arith, leb-true)) (λ _. omega arith))
 
   settles : (add : ℕ) (c : Crossing) → add ≤ 1 → CrossingIn s c → CrossingIn s (settle s add c)
   unfolding settle

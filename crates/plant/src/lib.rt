@@ -1,5 +1,7 @@
 // The range check: every held number of a plant, settings included, is in its range (number 15), and the settings of one crossing (number 3).
 // Each test equals its definition in the machine's Range and Plant; no function has a `requires`.
+pub mod booms;
+
 use machine::Crossing;
 use machine::Entry;
 use machine::Plant;
@@ -57,13 +59,13 @@ fn tracks_in(tracks: u8, mask: u8) -> bool
 }
 
 // G: 1 to 90 for kind 4, otherwise 0.
-fn gap_in(kind: u8, gap: u16) -> bool
-    ensures { λ r. ⌜ r ≡ gap-in kind gap ⌝ }
+fn gap_in(kind: u8, g: u16) -> bool
+    ensures { λ r. ⌜ r ≡ gap-in kind g ⌝ }
 {
     if kind == 4 {
-        (1 <= gap) & (gap <= 90)
+        (1 <= g) & (g <= 90)
     } else {
-        gap == 0
+        g == 0
     }
 }
 

@@ -1,0 +1,72 @@
+-- The train account of a crossing, over a tick and over an event of its own.
+use mathlib.Core.Path.{_≡_, refl, sym, ap, subst}
+use mathlib.Core.Bool.{Bool, true, false, cond, _&&_}
+use mathlib.Core.List.{List, _∷_}
+use Prim.Native.Nat.{ℕ, _+_, _<_}
+use native.Mathlib.Omega.{arith}
+use lib.Dec.{eqb, lit<}
+use borrow.Author.Tests.{eqb-true}
+use Rattle.machine.specs.Common.{bit, sum4}
+use Rattle.machine.specs.declared.Entry.{Entry}
+use Rattle.machine.specs.declared.Crossing.{Crossing}
+use Rattle.machine.specs.declared.Event.{Event}
+use Rattle.machine.specs.Plant.{calling, waiting, trains, total}
+use Rattle.machine.specs.Events.{is, is-at, on-track}
+use Rattle.machine.specs.Effects.{calling-after, waiting-after, act, releases, tick, written-at}
+use Rattle.machine.specs.Settling.{settle}
+use Rattle.machine.proofs.Tools.{below4, and-both}
+use Rattle.machine.proofs.Trains.{trains-after}
+use Rattle.demand.specs.Ledger as ledger
+use Rattle.demand.specs.Ledger.{count, written-off}
+use Rattle.demand.proofs.Agree.{Agree}
+
+-- a mark at one place of four
+one-hot : (b : Bool) (place : ℕ) → (b ≡ true → place < 4) → sum4 (λ t. bit (b && eqb place t) 1) ≡ bit b 1
+one-hot true place f = below4 (λ x. sum4 (λ t. bit (eqb x t) 1) ≡ 1) refl refl refl refl place (f refl)
+one-hot false place f = refl
+
+-- strike-ins taken = passages taken + trains written off + trains there
+abbrev pub Even : Entry → Crossing → List Event → Type 0
+Even s c h = count 1 h ≡ count 2 h + written-off s h + total c
+
+module _ {s : Entry} {c : Crossing} {h : List Event} (a : Agree s c h) (e : Event) where
+  -- what the ledger writes off for an event is what the machine does
+  pub written-more : written-off s (e ∷ h) ≡ written-at c e + written-off s h
+  unfolding written-off written-at
+  written-more = rw (same, ← a .countdown)
+    where
+      at : (t : ℕ) → t < 4 → ledger.queue s t h .calling + ledger.queue s t h .waiting ≡ trains c t
+      at t b = sym (ap (λ q. q .calling + q .waiting) (a .queue t b))
+
+      same : ledger.trains s h ≡ total c
+      same = omega (arith, at 0 (lit< tt), at 1 (lit< tt), at 2 (lit< tt), at 3 (lit< tt))
+
+  -- an event of this crossing: at a track where its code asks for one, and a passage of a train that is there
+  module _ (not-tick : is 0 e ≡ false) (placed : (k : ℕ) → on-track k ≡ true → is k e ≡ true → e .place < 4) (there : is 2 e ≡ true → 0 < trains c (e .place)) where
+    own-total : total (act s c e) + bit (is 2 e) 1 ≡ total c + bit (is 1 e) 1
+    unfolding act
+    own-total = omega (arith, at 0, at 1, at 2, at 3, one-hot (is 1 e) (e .place) (placed 1 refl), one-hot (is 2 e) (e .place) (placed 2 refl))
+      where
+        at : (t : ℕ) → calling-after s c e t + waiting-after s c e t + bit (is-at 2 t e) 1 ≡ trains c t + bit (is-at 1 t e) 1
+        at t = trains-after s c e t (λ q. let b = and-both (is 2 e) (eqb (e .place) t) q in subst (λ u. 0 < trains c u) (eqb-true _ _ (b .1)) (there (b .0)))
+
+    pub own-even : Even s c h → Even s (settle s 0 (act s c e)) (e ∷ h)
+    unfolding count settle written-at
+    own-even v = let w = rw not-tick at written-more in omega (arith, own-total)
+
+  -- a tick
+  module _ (z : e .code ≡ 0) where
+    tick-total : total (tick s c) + written-at c e ≡ total c
+    unfolding tick written-at
+    tick-total = rw z (both (releases c))
+      where
+        both : (r : Bool) → sum4 (λ t. cond r 0 (calling c t) + cond r 0 (waiting c t)) + bit r (total c) ≡ total c
+        both true = omega arith
+        both false = omega arith
+
+    pub tick-even : Even s c h → Even s (settle s 1 (tick s c)) (e ∷ h)
+    unfolding count settle
+    tick-even v =
+        let no-strike-in : is 1 e ≡ false = rw z in
+        let no-passage : is 2 e ≡ false = rw z in
+        rw (no-strike-in, no-passage) (omega (arith, tick-total, written-more))

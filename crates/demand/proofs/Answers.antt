@@ -1,0 +1,61 @@
+-- One event from a plant: what its answer tells of the plant after it and of the trains written off.
+use mathlib.Core.Path.{_≡_, sym, _∙_, ap, subst}
+use mathlib.Core.Bool.{true, false}
+use Prim.Native.Nat.{ℕ, zero, suc, _≤_, _<_}
+use native.Mathlib.Omega.{arith}
+use lib.Dec.{eqb}
+use borrow.Author.Tests.{eqb-true, eqb-false, eq-eqb}
+use Rattle.machine.specs.Common.{sum-below}
+use Rattle.machine.specs.declared.Plant.{Plant}
+use Rattle.machine.specs.declared.Event.{Event}
+use Rattle.machine.specs.Plant.{entry, crossing, no-crossing}
+use Rattle.machine.specs.Range.{in-range}
+use Rattle.machine.specs.Events.{place-limit, value-limit, refusal, number}
+use Rattle.machine.specs.Effects.{written-at}
+use Rattle.machine.specs.Step.{touch, apply, written, step}
+use Rattle.machine.proofs.Tools.{by-test, and-false, getD-tab}
+use Rattle.machine.proofs.Taken.{taken-answer, refused-answer, answer-number, Accepted, accepted, taken-tests}
+use Rattle.machine.proofs.Ranges.{PlantIn}
+use Rattle.demand.specs.Ledger.{taken}
+use Rattle.demand.specs.Demand.{a-tick}
+
+-- a sum whose further terms are 0
+pub sum-past : (f : ℕ → ℕ) (m n : ℕ) → n ≤ m → ((i : ℕ) → n ≤ i → i < m → f i ≡ 0) → sum-below m f ≡ sum-below n f
+sum-past f zero n l z = let e : n ≡ 0 = omega arith in rw e
+sum-past f (suc m) n l z = by-test (eqb n (suc m))
+    (λ q. rw (eqb-true n (suc m) q))
+    (λ q. let d : n ≡ suc m → ⊥ = eqb-false n (suc m) q in let ih = sum-past f m n (omega arith) (λ i a b. z i a (omega arith)) in omega (arith, z m (omega arith) (omega arith)))
+
+module _ (q : Plant) (e : Event) where
+  pub taken-number : taken q e ≡ eqb (number q e) 0
+  unfolding taken
+  taken-number = ap (λ x. eqb x 0) (answer-number q e)
+
+  module _ (t : taken q e ≡ true) where
+    zero-number : number q e ≡ 0
+    zero-number = eqb-true _ _ (sym taken-number ∙ t)
+
+    pub taken-crossing : (i : ℕ) → i < 8 → crossing (step q e .plant) i ≡ touch (entry q i) i (crossing q i) e
+    unfolding apply
+    taken-crossing i b = ap (λ a. crossing (a .plant) i) (taken-answer q e zero-number) ∙ getD-tab 8 (λ j. touch (entry q j) j (crossing q j) e) no-crossing i b
+
+    pub taken-site : step q e .plant .site ≡ q .site
+    unfolding apply
+    taken-site = ap (λ a. a .plant .site) (taken-answer q e zero-number)
+
+    -- the records past the last crossing hold no train
+    pub taken-written : PlantIn q → step q e .written ≡ sum-below (q .site .n) (λ i. written-at (crossing q i) e)
+    unfolding written written-at
+    taken-written g = ap (λ a. a .written) (taken-answer q e zero-number)
+        ∙ sum-past (λ i. written-at (crossing q i) e) 8 (q .site .n) (g .count) (λ i a b. rw (g .past i b a .countdown, and-false))
+
+    pub taken-accepted : (i : ℕ) → eqb (e .crossing) i ≡ true → Accepted (q .site .n) (entry q i) (crossing q i) e
+    taken-accepted i o = subst (λ j. Accepted (q .site .n) (entry q j) (crossing q j) e) (eqb-true _ _ o) (accepted _ _ _ e (taken-tests q e zero-number .1))
+
+  pub refused-step : taken q e ≡ false → step q e ≡ record { number = number q e; written = 0; plant = q }
+  refused-step f = refused-answer q e (eqb-false _ _ (sym taken-number ∙ f))
+
+-- a plant in range takes a tick
+pub tick-taken : (q : Plant) → in-range q ≡ true → taken q a-tick ≡ true
+unfolding number refusal place-limit value-limit
+tick-taken q g = taken-number q a-tick ∙ eq-eqb (number q a-tick) 0 (rw g)

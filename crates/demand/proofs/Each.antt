@@ -1,0 +1,125 @@
+-- The invariant of one crossing, and one more event.
+use mathlib.Core.Path.{_≡_, refl, sym, _∙_}
+use mathlib.Core.Bool.{Bool, true, false, _||_, false≢true}
+use mathlib.Core.List.{List, [], _∷_, _++_}
+use Prim.Native.Nat.{ℕ, suc, _+_, _≤_, _<_}
+use native.Mathlib.Omega.{arith}
+use native.Mathlib.Nat.{zero-add}
+use lib.Dec.{eqb}
+use borrow.Author.Tests.{eqb-true}
+use Rattle.machine.specs.declared.Entry.{Entry}
+use Rattle.machine.specs.declared.Crossing.{Crossing}
+use Rattle.machine.specs.declared.Plant.{Plant}
+use Rattle.machine.specs.declared.Event.{Event}
+use Rattle.machine.specs.Plant.{boom, entry, reason, booms-up, fresh-crossing}
+use Rattle.machine.specs.Events.{is, place-limit}
+use Rattle.machine.specs.Effects.{act, tick, written-at}
+use Rattle.machine.specs.Settling.{settle}
+use Rattle.machine.specs.Step.{after, touch}
+use Rattle.machine.proofs.Tools.{by-test, by-cond, or-false, below4}
+use Rattle.machine.proofs.Taken.{Accepted}
+use Rattle.machine.proofs.Ranges.{PhaseIn, opened, warning, right, closed, raising}
+use Rattle.demand.specs.Ledger.{taken, note, log, count, last, countdown, queue, written-off}
+use Rattle.demand.specs.Demand.{stands-after, Unbroken}
+use Rattle.demand.proofs.Lists.{log-snoc}
+use Rattle.demand.proofs.Unbroken.{stands-now, begins, goes-on}
+use Rattle.demand.proofs.Timing.{rests, Timed, timed-tick, timed-settled}
+use Rattle.demand.proofs.Agree.{Agree, own-agree, tick-agree, reason-stands}
+use Rattle.demand.proofs.Account.{Even, own-even, tick-even, written-more}
+
+-- what holds of crossing i, whose record is c after the list es from the plant p
+pub record Holds (p : Plant) (es : List Event) (i : ℕ) (c : Crossing) : Type 0 where
+  pub agree : Agree (entry p i) c (log p i es)
+  pub timed : Timed (λ n. Unbroken p i n es) (entry p i) (c .phase) (c .timer)
+  pub even : Even (entry p i) c (log p i es)
+
+pub fresh-holds : (p : Plant) (i : ℕ) → Holds p [] i (fresh-crossing true)
+unfolding log last countdown queue count written-off
+fresh-holds p i = record {
+  agree = record {
+    kiosk = refl;
+    operator = refl;
+    countdown = refl;
+    route = below4 _ refl refl refl refl;
+    queue = below4 _ refl refl refl refl;
+    boom = below4 _ refl refl refl refl;
+    red = refl;
+  };
+  timed = λ q. absurd (false≢true (sym q));
+  even = refl;
+}
+
+-- no timer runs in a phase that meets a test which 1 and 2 fail
+pub no-timer : (test : ℕ → Bool) → test 1 ≡ false → test 2 ≡ false → {s : Entry} {phase timer : ℕ} → PhaseIn s phase timer → test phase ≡ true → timer ≡ 0
+no-timer test a b (opened p z) q = z
+no-timer test a b (warning p l h) q = absurd (false≢true (sym a ∙ (rw p at q)))
+no-timer test a b (right p f l h) q = absurd (false≢true (sym b ∙ (rw p at q)))
+no-timer test a b (closed p z) q = z
+no-timer test a b (raising p z h) q = z
+
+module _ (p : Plant) (es : List Event) (e : Event) (i : ℕ) (c : Crossing) (k : Holds p es i c) where
+  abbrev s : Entry
+  s = entry p i
+
+  abbrev h : List Event
+  h = log p i es
+
+  abbrev more : List Event
+  more = es ++ e ∷ []
+
+  -- a refused event, or one of another crossing
+  module _ (none : note (after p es) i e ≡ []) where
+    same-log : log p i more ≡ h
+    same-log = log-snoc p i es e ∙ rw none
+
+    pub skipped : Holds p more i c
+    skipped = record {
+      agree = rw same-log (k .agree);
+      timed = λ q. let u = k .timed q in (u .0, goes-on p i (u .0) es e (u .1) (rw same-log (stands-now p i (u .1))) (omega arith), u .2);
+      even = rw same-log (k .even);
+    }
+
+  -- an event of this crossing, or a tick: d is the record before it settles
+  module _ (noted : note (after p es) i e ≡ e ∷ []) where
+    longer-log : log p i more ≡ e ∷ h
+    longer-log = log-snoc p i es e ∙ rw noted
+
+    settled : (add : ℕ) (d : Crossing) → Agree s (settle s add d) (e ∷ h) → Even s (settle s add d) (e ∷ h)
+        → (stands-after p i more ≡ true → Timed (λ n. Unbroken p i n more) s (d .phase) (d .timer)) → Holds p more i (settle s add d)
+    unfolding settle reason
+    settled add d a v f = record {
+      agree = rw longer-log a;
+      timed = timed-settled (λ n. Unbroken p i n more) s (d .phase) (d .timer) (reason d) (booms-up (s .kind) (boom d))
+          (λ r. let st : stands-after p i more ≡ true = rw longer-log (sym (reason-stands a) ∙ r) in (begins p i more st, f st));
+      even = rw longer-log v;
+    }
+
+    pub ticked : e .code ≡ 0 → PhaseIn s (c .phase) (c .timer) → Holds p more i (settle s 1 (tick s c))
+    unfolding tick count
+    ticked z t = settled 1 (tick s c) (tick-agree (k .agree) e z) (tick-even (k .agree) e z (k .even))
+        (λ st. timed-tick s (c .phase) (c .timer) (λ n u. goes-on p i (suc n) es e u st one-more) (no-timer rests refl refl t) (k .timed))
+      where
+        one-more : {n : ℕ} → suc n ≤ n + count 0 (note (after p es) i e)
+        one-more = rw noted (rw z (omega arith))
+
+    pub acted : {n : ℕ} → is 0 e ≡ false → s .tracks ≤ 4 → Accepted n s c e → Holds p more i (settle s 0 (act s c e))
+    unfolding act place-limit
+    acted nt few a = settled 0 (act s c e) (own-agree (k .agree) e nt)
+        (own-even (k .agree) e nt (λ j on q. let b : e .place < s .tracks = rw (eqb-true (e .code) j q, on) at (a .place) in omega arith) (a .there) (k .even))
+        (λ st q. let u = k .timed q in (u .0, goes-on p i (u .0) es e (u .1) st (omega arith), u .2))
+
+  -- a taken event, of any crossing
+  module _ (t : taken (after p es) e ≡ true) where
+    pub touched : {n : ℕ} → PhaseIn s (c .phase) (c .timer) → s .tracks ≤ 4 → (eqb (e .crossing) i ≡ true → Accepted n s c e) → Holds p more i (touch s i c e)
+    unfolding touch note
+    touched ph few a = by-cond (Holds p more i) (is 0 e)
+        (λ z. ticked (rw (t, z)) (eqb-true _ _ z) ph)
+        (λ z. by-cond (Holds p more i) (eqb (e .crossing) i)
+        (λ o. acted (rw (t, z, o)) z few (a o))
+        (λ o. skipped (rw (t, z, o))))
+
+    pub written-touched : written-off s (log p i more) ≡ written-at c e + written-off s h
+    unfolding note written-at
+    written-touched = by-test (is 0 e || eqb (e .crossing) i)
+        (λ o. rw (longer-log (rw (t, o))) (written-more (k .agree) e))
+        (λ o. rw (same-log (rw (t, o)), or-false (is 0 e) (eqb (e .crossing) i) o .0, zero-add))

@@ -1,0 +1,10 @@
+pub mod Lists
+pub mod Unbroken
+pub mod Timing
+pub mod Agree
+pub mod Account
+pub mod Each
+pub mod Answers
+pub mod Run
+pub mod Shown
+pub mod Demand

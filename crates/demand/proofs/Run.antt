@@ -1,0 +1,88 @@
+-- What holds after every list of events, by induction over the list.
+use mathlib.Core.Path.{_≡_, refl, _∙_, ap}
+use mathlib.Core.Bool.{true, false}
+use mathlib.Core.List.{List, [], _∷_, _++_}
+use Prim.Native.Nat.{ℕ, _+_, _<_}
+use native.Mathlib.Omega.{arith}
+use native.Mathlib.Nat.{add-zero}
+use lib.ListN.{getD}
+use Rattle.machine.specs.Common.{sum-below}
+use Rattle.machine.specs.declared.Plant.{Plant}
+use Rattle.machine.specs.declared.Event.{Event}
+use Rattle.machine.specs.Plant.{entry, crossing, no-entry, fresh-crossing}
+use Rattle.machine.specs.Range.{in-range}
+use Rattle.machine.specs.Effects.{written-at}
+use Rattle.machine.specs.Step.{written, step, after, carried}
+use Rattle.machine.proofs.Tools.{by-test, sum-add, sum-same}
+use Rattle.machine.proofs.Ranges.{plant-reads, entry-of}
+use Rattle.machine.proofs.Stays.{stays-in-range}
+use Rattle.demand.specs.Ledger.{taken, note, log, written-off}
+use Rattle.demand.proofs.Lists.{snoc-induction, after-append, carried-append, log-snoc}
+use Rattle.demand.proofs.Each.{Holds, fresh-holds, skipped, touched, written-touched}
+use Rattle.demand.proofs.Answers.{sum-past, taken-crossing, taken-site, taken-written, taken-accepted, refused-step}
+
+-- the trains written off by the ledgers of all crossings
+abbrev all-written : Plant → List Event → ℕ
+all-written p es = sum-below (p .site .n) (λ i. written-off (entry p i) (log p i es))
+
+pub record Sound (p : Plant) (es : List Event) : Type 0 where
+  pub site : after p es .site ≡ p .site
+  pub range : in-range (after p es) ≡ true
+  pub each : (i : ℕ) → i < p .site .n → Holds p es i (crossing (after p es) i)
+  pub sum : all-written p es ≡ carried p es
+
+module _ (p : Plant) where
+  none : in-range p ≡ true → ((i : ℕ) → i < p .site .n → crossing p i ≡ fresh-crossing true) → Sound p []
+  unfolding after carried log written-off
+  none g fresh = record { site = refl; range = g; each = λ i l. rw (fresh i l) (fresh-holds p i); sum = sum-past (λ i. written-off (entry p i) (log p i [])) (p .site .n) 0 (omega arith) (λ i a b. refl) }
+
+  module _ (es : List Event) (e : Event) (k : Sound p es) where
+    abbrev q : Plant
+    q = after p es
+
+    now : after p (es ++ e ∷ []) ≡ step q e .plant
+    unfolding after
+    now = after-append p es (e ∷ [])
+
+    carries : carried p (es ++ e ∷ []) ≡ carried p es + step q e .written
+    unfolding carried
+    carries = carried-append p es (e ∷ []) ∙ (rw add-zero)
+
+    same-entry : (i : ℕ) → entry q i ≡ entry p i
+    same-entry i = ap (λ x. getD (x .entries) i no-entry) (k .site)
+
+    still-in : in-range (after p (es ++ e ∷ [])) ≡ true
+    still-in = rw now (stays-in-range q e (k .range))
+
+    refused-more : taken q e ≡ false → Sound p (es ++ e ∷ [])
+    unfolding note
+    refused-more f =
+        let same : step q e .plant ≡ q = ap (λ a. a .plant) (refused-step q e f) in
+        let l : (i : ℕ) → log p i (es ++ e ∷ []) ≡ log p i es = (λ i. log-snoc p i es e ∙ (rw f)) in
+        record {
+          site = rw (now, same) (k .site);
+          range = still-in;
+          each = λ i b. rw (now, same) (skipped p es e i (crossing q i) (k .each i b) (rw f));
+          sum = sum-same (p .site .n) _ _ (λ i b. rw (l i)) ∙ k .sum ∙ rw (carries, refused-step q e f, add-zero);
+        }
+
+    taken-more : taken q e ≡ true → Sound p (es ++ e ∷ [])
+    taken-more t =
+        let g = plant-reads q (k .range) in
+        let n : q .site .n ≡ p .site .n = ap (λ x. x .n) (k .site) in
+        record {
+          site = rw now (taken-site q e t ∙ k .site);
+          range = still-in;
+          each = λ i b.
+              let l : i < q .site .n = rw n b in
+              let same = same-entry i in
+              let c = taken-crossing q e t i (omega (arith, g .count)) in
+              rw (now, c, same) (touched p es e i (crossing q i) (k .each i b) t
+              (rw same at (g .used i l .phase)) (rw same at (entry-of g i l .tracks)) (λ o. rw same at (taken-accepted q e t i o)));
+          sum = sum-same (p .site .n) _ (λ i. written-at (crossing q i) e + written-off (entry p i) (log p i es)) (λ i b. written-touched p es e i (crossing q i) (k .each i b) t)
+              ∙ sum-add (p .site .n) (λ i. written-at (crossing q i) e) (λ i. written-off (entry p i) (log p i es))
+              ∙ omega (arith, carries, taken-written q e t g, ap (λ m. sum-below m (λ i. written-at (crossing q i) e)) n, k .sum);
+        }
+
+  pub sound : in-range p ≡ true → ((i : ℕ) → i < p .site .n → crossing p i ≡ fresh-crossing true) → (es : List Event) → Sound p es
+  sound g fresh = snoc-induction (Sound p) (none g fresh) (λ es e k. by-test (taken (after p es) e) (taken-more es e k) (refused-more es e k))

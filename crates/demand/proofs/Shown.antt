@@ -1,0 +1,63 @@
+-- What the panel shows of a crossing: a signal that lets a train pass, an order to the booms, and normal position after a tick.
+use mathlib.Core.Path.{_≡_, refl}
+use mathlib.Core.Logic.{_⊎_, inl, inr, ⊎-elim}
+use mathlib.Core.Bool.{Bool, true, false, cond, _||_}
+use Prim.Native.Nat.{_+_, _%_, _<_}
+use native.Mathlib.Omega.{arith}
+use lib.Dec.{eqb, ltb}
+use borrow.Author.Tests.{eqb-true}
+use Rattle.machine.specs.Common.{bit}
+use Rattle.machine.specs.declared.Entry.{Entry}
+use Rattle.machine.specs.declared.Crossing.{Crossing}
+use Rattle.machine.specs.Plant.{overdue-ticks, calling, boom, lamp, reason-of, reason, booms-up, normal, secured}
+use Rattle.machine.specs.Effects.{releases, tick}
+use Rattle.machine.specs.Settling.{phase-settled, settle}
+use Rattle.machine.specs.Panel.{signal, right-down, left-down, released, releases-shown, status}
+use Rattle.machine.proofs.Tools.{by-test, by-cond, and-false, or-false, or-left-false}
+use Rattle.demand.proofs.Timing.{rests, tick-rests}
+
+module _ (s : Entry) (c : Crossing) where
+  pub passable-secured : signal s c ≡ 2 → secured s c ≡ true
+  unfolding signal
+  passable-secured = by-cond (λ x. x ≡ 2 → secured s c ≡ true) (secured s c) (λ t q. t)
+      (λ _. by-cond (λ x. x ≡ 2 → secured s c ≡ true) (lamp c 2) (λ _ q. absurd (omega arith)) (λ _ q. absurd (omega arith)))
+
+  pub released-secured : 0 < releases-shown s c → secured s c ≡ true
+  unfolding releases-shown released
+  released-secured q = by-test (secured s c) (λ t. t) (λ f. absurd (let r = simp (f, and-false) at q in omega arith))
+
+  -- a tick makes no reason
+  tick-reason : reason c ≡ false → reason (tick s c) ≡ false
+  unfolding reason tick
+  tick-reason q = go (releases c)
+    where
+      go : (r : Bool) → reason-of (c .kiosk) (c .operator) (λ t. cond r 0 (calling c t)) ≡ false
+      go true = rw (or-false (c .kiosk || c .operator) _ q .0)
+      go false = q
+
+  module _ (r : rests (c .phase) ≡ true) where
+    phases : (c .phase ≡ 0) ⊎ (c .phase ≡ 4)
+    phases = by-test (eqb (c .phase) 0) (λ z. inl (eqb-true _ _ z)) (λ z. inr (eqb-true _ _ (or-left-false _ _ z r)))
+
+    pub right-up : right-down s c ≡ 0
+    unfolding right-down
+    right-up = ⊎-elim (λ z. rw z (rw and-false)) (λ z. rw z (rw and-false)) phases
+
+    pub left-up : left-down s c ≡ 0
+    unfolding left-down
+    left-up = ⊎-elim (λ z. rw z (rw and-false)) (λ z. rw z (rw and-false)) phases
+
+    -- a tick opens a crossing with no reason and every boom up
+    pub opened : c .timer ≡ 0 → reason c ≡ false → booms-up (s .kind) (boom c) ≡ true → normal s (settle s 1 (tick s c)) ≡ true
+    unfolding normal settle tick phase-settled
+    opened z n up = rw (tick-reason n, tick-rests s (c .phase) (c .timer) z, up) (⊎-elim (λ z. rw z) (λ z. rw z) phases)
+
+  pub normal-bit : normal s c ≡ true → status s c % 2 ≡ 1
+  unfolding status
+  normal-bit q = rw q (odd (secured s c) (ltb overdue-ticks (c .out)))
+    where
+      odd : (a b : Bool) → (1 + bit a 2 + bit b 4) % 2 ≡ 1
+      odd true true = refl
+      odd true false = refl
+      odd false true = refl
+      odd false false = refl

@@ -1,0 +1,85 @@
+-- Demand 3, one claim about every list of events from the fresh plant of a book: the train account, the passage rule and the opening tick.
+use mathlib.Core.Path.{_≡_}
+use mathlib.Core.Logic.{_⊎_}
+use mathlib.Core.Bool.{Bool, true, false}
+use mathlib.Core.List.{List, _++_}
+use Prim.Native.Nat.{ℕ, _+_, _*_, _%_, _≤_, _<_}
+use lib.Dec.{eqb}
+use Rattle.machine.specs.Common.{bit, byte, sum-below}
+use Rattle.machine.specs.declared.Entry.{Entry}
+use Rattle.machine.specs.declared.Plant.{Plant}
+use Rattle.machine.specs.declared.Event.{Event}
+use Rattle.machine.specs.Plant.{total, entry, crossing, booms-up, booms-closed}
+use Rattle.machine.specs.Step.{step, after, carried}
+use Rattle.machine.specs.Panel.{panel}
+use Rattle.machine.specs.SiteBook.{read}
+use Rattle.demand.specs.Ledger.{taken, log, ticks, strike-ins, passages, boom-report, lamp-whole, written-off, stands}
+
+-- p is the plant before the list es, and i a crossing of it ------------------------------------------------------------------------
+-- a reason stands at crossing i after the list
+abbrev pub stands-after : Plant → ℕ → List Event → Bool
+stands-after p i es = stands (entry p i) (log p i es)
+
+-- unbroken for at least k ticks: some number of last events hold k taken ticks or more, and a reason stands before the first of them and after each
+pub record Unbroken (p : Plant) (i k : ℕ) (es : List Event) : Type 0 where
+  pub older : List Event
+  pub latest : List Event
+  pub split : es ≡ older ++ latest
+  pub enough : k ≤ ticks (log (after p older) i latest)
+  pub stood : (a b : List Event) → latest ≡ a ++ b → stands-after p i (older ++ a) ≡ true
+
+-- F ticks, F + G with four booms
+abbrev pub needed : Entry → ℕ
+needed s = s .pre + bit (eqb (s .kind) 4) (s .gap)
+
+-- byte k of crossing i in the panel of a plant
+abbrev pub shown : Plant → ℕ → ℕ → ℕ
+shown p i k = byte (panel p) (16 * i + k)
+
+-- the further tick
+abbrev pub a-tick : Event
+a-tick = record { code = 0; crossing = 0; place = 0; value = 0 }
+
+-- The three parts ------------------------------------------------------------------------------------------------------------------
+-- train account: strike-ins taken = passages taken + trains written off + calling and waiting of the plant after the list
+abbrev pub Account : Plant → List Event → ℕ → Type 0
+Account p es i =
+    let h = log p i es in
+    strike-ins h ≡ passages h + written-off (entry p i) h + total (crossing (after p es) i)
+
+-- what a train may rely on: a reason unbroken for long enough, the last reports of the booms as the kind demands, and the road's red whole
+pub record Closed (p : Plant) (es : List Event) (i : ℕ) : Type 0 where
+  pub unbroken : Unbroken p i (needed (entry p i)) es
+  pub booms : booms-closed (entry p i .kind) (boom-report (log p i es)) ≡ true
+  pub red : lamp-whole (log p i es) 1 ≡ true
+
+-- passage rule: passable (byte 6 is 2) or released (a bit of byte 8 is set) only then
+abbrev pub Passage : Plant → List Event → ℕ → Type 0
+Passage p es i = (shown (after p es) i 6 ≡ 2) ⊎ (0 < shown (after p es) i 8) → Closed p es i
+
+-- no boom is ordered down (bytes 4 and 5); with all booms last reported up, one further tick leaves normal position (the normal bit of byte 9)
+pub record Opens (p : Plant) (es : List Event) (i : ℕ) : Type 0 where
+  pub right : shown (after p es) i 4 ≡ 0
+  pub left : shown (after p es) i 5 ≡ 0
+  pub normal : booms-up (entry p i .kind) (boom-report (log p i es)) ≡ true → shown (step (after p es) a-tick .plant) i 9 % 2 ≡ 1
+
+-- opening tick: that holds where no reason stands
+abbrev pub Opening : Plant → List Event → ℕ → Type 0
+Opening p es i = stands-after p i es ≡ false → Opens p es i
+
+-- the three, per crossing
+pub record Kept (p : Plant) (es : List Event) (i : ℕ) : Type 0 where
+  pub account : Account p es i
+  pub passage : Passage p es i
+  pub opening : Opening p es i
+
+-- The claim ------------------------------------------------------------------------------------------------------------------------
+-- at each crossing the three parts; over all crossings the trains written off add up to what the answers carry; and a further tick is taken
+pub record Demand-3 (p : Plant) (es : List Event) : Type 0 where
+  pub each : (i : ℕ) → i < p .site .n → Kept p es i
+  pub sum : sum-below (p .site .n) (λ i. written-off (entry p i) (log p i es)) ≡ carried p es
+  pub tick : taken (after p es) a-tick ≡ true
+
+-- for every book read with number 0 and every list of events, each any four numbers
+unfoldable pub Demand : Type 0
+Demand = (book : List ℕ) (es : List Event) → read book .number ≡ 0 → Demand-3 (read book .plant) es

@@ -1,0 +1,102 @@
+use Rattle.machine.specs.Panel.{panel}
+use Rattle.plant.proofs.Laws.{crossing-read}
+use Prim.Native.Nat.{ℕ, _≤_, _<_, _-_, _+_, _*_}
+use mathlib.Core.Path.{_≡_, refl, _∙_}
+use mathlib.Core.List.{List, _++_, append-nil}
+use native.Mathlib.Omega.{arith}
+use native.Mathlib.Numerals.{add-one}
+use lib.ListN.{length, length-map, drop, drop-of-length-le}
+use Rattle.machine.specs.Common.{concat-below}
+use Rattle.panel.proofs.Rows.{row-at, row-length, next-row}
+use borrow.Author.Tests.{le-ltb}
+use borrow.Author.Needs.{needs}
+use Rattle.panel.proofs.fill.Statement.{statement}
+use Rattle.panel.proofs.fill.Tie as tie
+
+abbrev Inv-loop : tie.InvT-loop
+Inv-loop out₀ p site n i₀ out i = (i ≤ n) × ((out ≡ concat-below i (row-at p) ++ drop (16 * i) out₀) × (length out ≡ length out₀))
+
+abbrev μ-loop : tie.MeasureT-loop
+μ-loop out₀ p site n i₀ out i = n - i
+
+cast-n : tie.Need-cast-n Inv-loop μ-loop
+cast-n c = search needs
+
+loop-holds : tie.Need-loop-holds Inv-loop μ-loop
+loop-holds c = search needs
+
+mul-s : tie.Need-mul-s Inv-loop μ-loop
+mul-s c = search needs
+
+element-copy-out-s : tie.Need-element-copy-out-s Inv-loop μ-loop
+element-copy-out-s c = search needs
+
+mul-c : tie.Need-mul-c Inv-loop μ-loop
+mul-c c = search needs
+
+element-copy-out-c : tie.Need-element-copy-out-c Inv-loop μ-loop
+element-copy-out-c c = search needs
+
+mul-put : tie.Need-mul-put Inv-loop μ-loop
+mul-put c = search needs
+
+row-requires : tie.Need-row-requires Inv-loop μ-loop
+row-requires c κs = search needs
+
+put-requires : tie.Need-put-requires Inv-loop μ-loop
+put-requires c κs = search needs
+
+add-i : tie.Need-add-i Inv-loop μ-loop
+add-i c = search needs
+
+loop-less : tie.Need-loop-less Inv-loop μ-loop
+loop-less c = search needs
+
+loop-again : tie.Need-loop-again Inv-loop μ-loop
+loop-again c =
+    let a = c .before .before .before .before .before .before .before .before .before .before .before in
+    let p = a .args .t1 in
+    let l = c .before .before .before .before .before .before .before .before .loop in
+    let w = l .inv in
+    let r = c .before .before .put in
+    let eight : length (p .crossings) ≡ 8 = simp length-map at (a .good .0 .1 .1 .1 .1 .0 .1 .0 .1) in
+    let few : l .i < length (p .crossings) = omega (arith, a .pre) in (
+      omega arith,
+      (
+        r .ensures ∙ rw (w .1 .0, c .before .before .before .row .ensures, crossing-read (p .crossings) (l .i) few, add-one (l .i)) (next-row 16 (row-at p) (row-length p) (l .i) (a .args .out .now)),
+        r .kept .0 ∙ w .1 .1,
+      ),
+    )
+
+same-length : tie.Need-same-length Inv-loop μ-loop
+same-length c = search needs
+
+returns : tie.Need-returns Inv-loop μ-loop
+unfolding panel
+returns c =
+    let a = c .before .before .before .before in
+    let p = a .args .t1 in
+    let l = c .before .loop in
+    let end : l .i ≡ p .site .n = omega arith in
+    l .inv .1 .0 ∙ rw (end, drop-of-length-le (a .args .out .now) {i = 16 * p .site .n} (omega (arith, a .pre))) (append-nil (concat-below (p .site .n) (row-at p)))
+
+pub fill-spec : {M : Type 1} → statement M
+fill-spec =
+    tie.close
+    (tie.spec
+    Inv-loop
+    μ-loop
+    cast-n
+    loop-holds
+    mul-s
+    element-copy-out-s
+    mul-c
+    element-copy-out-c
+    mul-put
+    row-requires
+    put-requires
+    add-i
+    loop-less
+    loop-again
+    same-length
+    returns)
