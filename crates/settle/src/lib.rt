@@ -5,7 +5,7 @@ ghost use mathlib.Core.Path.{_≡_};
 ghost use lib.ListN.{getD};
 ghost use lib.Dec.{ltb};
 ghost use Rattle.machine.specs.Common.{any-below, bit};
-ghost use Rattle.machine.specs.Plant.{booms-up, reason};
+ghost use Rattle.machine.specs.Plant.{reason};
 ghost use Rattle.machine.specs.Settling.{phase-settled, timer-settled, out-settled, settle};
 
 // Some track is calling.
@@ -21,17 +21,6 @@ pub fn stands(c: Crossing) -> bool
 {
     let calling = c.calling;
     c.kiosk | c.operator | any_calling(calling)
-}
-
-// Every boom that the kind has is reported up.
-fn all_up(kind: u8, booms: [u8; 4]) -> bool
-    ensures { λ r. ⌜ r ≡ booms-up kind (λ b. getD booms b 0) ⌝ }
-{
-    let n = plant::boom_count(kind);
-    ((n <= 0) | (booms[0] == 0))
-        & ((n <= 1) | (booms[1] == 0))
-        & ((n <= 2) | (booms[2] == 0))
-        & ((n <= 3) | (booms[3] == 0))
 }
 
 // The phase after settling.
@@ -82,7 +71,7 @@ pub fn settle(s: Entry, tick: bool, c: Crossing) -> Crossing
     ensures { λ r. ⌜ r ≡ settle s (bit tick 1) c ⌝ }
 {
     let booms = c.booms;
-    let up = all_up(s.kind, booms);
+    let up = plant::booms::up(s.kind, booms);
     let next = phase_settled(s.kind, stands(c), up, c.phase);
     let timer = timer_settled(s.pre, c.phase, next, c.timer);
     let out = out_settled((next == 0) & up, tick, c.out);

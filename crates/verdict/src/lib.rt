@@ -2,11 +2,13 @@
 use machine::Crossing;
 use machine::Entry;
 use machine::Event;
+ghost use mathlib.Core.Bool.{_&&_};
 ghost use mathlib.Core.Path.{_≡_};
 ghost use Prim.Native.Nat.{_≤_};
+ghost use lib.Dec.{eqb};
 ghost use Rattle.machine.specs.Common.{refuse};
 ghost use Rattle.machine.specs.Plant.{trains};
-ghost use Rattle.machine.specs.Events.{crossing-limit, place-limit, value-limit, blocked, refusal};
+ghost use Rattle.machine.specs.Events.{crossing-limit, place-limit, value-limit, any-calling, blocked, refusal};
 ghost use Rattle.verdict.specs.Cases.{number-of, verdict, state-refusal};
 
 const UNKNOWN_CODE: u8 = 5;
@@ -86,6 +88,14 @@ fn trains_at(c: Crossing, place: u8) -> u16
         return wide(c.calling[t]) + wide(c.waiting[t]);
     }
     0
+}
+
+// Operator hold off while some track is calling, hold on or not.
+fn held_by_train(c: Crossing, value: u8) -> bool
+    ensures { λ r. ⌜ r ≡ (eqb value 0 && any-calling c) ⌝ }
+{
+    let calling = c.calling;
+    (value == 0) & settle::any_calling(calling)
 }
 
 // A hold is on, a route is set or an approach is occupied.

@@ -3,8 +3,8 @@ use borrow.Author.Needs.{needs}
 use Rattle.settle.proofs.settle.Statement.{statement}
 use Rattle.settle.proofs.settle.Tie as tie
 
-all-up-requires : tie.Need-all-up-requires
-all-up-requires c κs = search needs
+up-requires : tie.Need-up-requires
+up-requires c κs = search needs
 
 stands-requires : tie.Need-stands-requires
 stands-requires c κs = search needs
@@ -20,13 +20,13 @@ out-settled-requires c κs = search needs
 
 returns : tie.Need-returns
 unfolding settle
-returns c = simp (c .out-settled .ensures, c .before .timer-settled .ensures, c .before .before .phase-settled .ensures, c .before .before .before .stands .ensures, c .before .before .before .before .all-up .ensures)
+returns c = simp (c .out-settled .ensures, c .before .timer-settled .ensures, c .before .before .phase-settled .ensures, c .before .before .before .stands .ensures, c .before .before .before .before .up .ensures)
 
 pub settle-spec : {M : Type 1} → statement M
 settle-spec =
     tie.close
     (tie.spec
-    all-up-requires
+    up-requires
     stands-requires
     phase-settled-requires
     timer-settled-requires
