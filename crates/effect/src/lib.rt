@@ -16,7 +16,7 @@ fn strike_in(s: Entry, c: Crossing, e: Event) -> Crossing
     let t = e.place as usize;
     let mut d = c;
     d.countdown = 0;
-    if !plant::dependent(s, t) | c.route[t] {
+    if !kind::dependent(s, t) | c.route[t] {
         d.calling[t] = c.calling[t] + 1;
         return d;
     }

@@ -7,7 +7,7 @@ ghost use mathlib.Core.Path.{_≡_};
 ghost use Rattle.machine.specs.Events.{number};
 ghost use Rattle.machine.specs.Step.{step};
 
-const SPOILT_PLANT: u8 = 15;
+const OUT_OF_RANGE: u8 = 15;
 
 // Refused: the number, the plant as it was given and a zero count.
 fn refuse(p: Plant, number: u8) -> Answer
@@ -85,5 +85,5 @@ pub fn handle(p: Plant, e: Event) -> Answer
             Verdict::Refuse(number) => refuse(p, number),
         };
     }
-    refuse(p, SPOILT_PLANT)
+    refuse(p, OUT_OF_RANGE)
 }

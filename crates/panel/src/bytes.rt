@@ -73,10 +73,10 @@ pub fn released(s: Entry, route: [bool; 4], secured: bool) -> u8
     ensures { λ r. ⌜ r ≡ bit (dependent s 0 && getD route 0 false && secured) 1 + bit (dependent s 1 && getD route 1 false && secured) 2 + bit (dependent s 2 && getD route 2 false && secured) 4 + bit (dependent s 3 && getD route 3 false && secured) 8 ⌝ }
 {
     flags(
-        plant::dependent(s, 0) & route[0] & secured,
-        plant::dependent(s, 1) & route[1] & secured,
-        plant::dependent(s, 2) & route[2] & secured,
-        plant::dependent(s, 3) & route[3] & secured,
+        kind::dependent(s, 0) & route[0] & secured,
+        kind::dependent(s, 1) & route[1] & secured,
+        kind::dependent(s, 2) & route[2] & secured,
+        kind::dependent(s, 3) & route[3] & secured,
     )
 }
 

@@ -17,7 +17,7 @@ pub fn is_normal(s: Entry, c: Crossing) -> bool
     ensures { λ r. ⌜ r ≡ normal s c ⌝ }
 {
     let booms = c.booms;
-    (c.phase == 0) & plant::booms::up(s.kind, booms)
+    (c.phase == 0) & kind::booms::up(s.kind, booms)
 }
 
 // Secured: all ordered down, the road's red whole, and the booms as the kind demands.
@@ -25,7 +25,7 @@ pub fn is_secured(s: Entry, c: Crossing) -> bool
     ensures { λ r. ⌜ r ≡ secured s c ⌝ }
 {
     let booms = c.booms;
-    (c.phase == 3) & c.lamps[1] & plant::booms::closed(s.kind, booms)
+    (c.phase == 3) & c.lamps[1] & kind::booms::closed(s.kind, booms)
 }
 
 // The sixteen bytes of one crossing.
@@ -49,7 +49,7 @@ pub fn row(beat: u8, s: Entry, c: Crossing) -> [u8; 16]
             (0 < signal) & on,
             on,
         ),
-        bytes::bit(!normal & !(has_booms & plant::booms::down(s.kind, booms))),
+        bytes::bit(!normal & !(has_booms & kind::booms::down(s.kind, booms))),
         bytes::bit(!normal & has_booms),
         bytes::bit(has_booms & ((c.phase == 2) | (c.phase == 3))),
         bytes::bit((s.kind == 4) & (c.phase == 3)),

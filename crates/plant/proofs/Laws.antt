@@ -1,4 +1,4 @@
--- Laws of the range check: a bit above the mask's byte, a track count outside its range, and how conjunctions bracket.
+-- Laws of the range check: a track count outside its range, and how conjunctions bracket.
 use mathlib.Core.Path.{_≡_, refl}
 use mathlib.Core.Bool.{Bool, true, false, _&&_}
 use mathlib.Core.List.{List, [], _∷_}
@@ -12,10 +12,6 @@ use lib.ListN.{getD, length}
 use Rattle.machine.specs.declared.Crossing.{Crossing}
 use Rattle.machine.specs.Plant.{no-crossing}
 use Rattle.machine.proofs.Tools.{by-test, and-false}
-
--- a byte has no bit at or above 8
-pub no-bit : (mask t : ℕ) → mask < 256 → 8 ≤ t → false ≡ eqb ((mask / (2 ^ t)) % 2) 1
-no-bit mask t b h = let p : 2 ^ 8 ≤ 2 ^ t = pow-mono h in let q : mask < 2 ^ t = omega arith in rw (div-eq-of-lt q)
 
 -- a number that is none of 1 to 4
 pub outside : (n : ℕ) (m : Bool) → (n ≡ 1 → ⊥) → (n ≡ 2 → ⊥) → (n ≡ 3 → ⊥) → (n ≡ 4 → ⊥) → false ≡ (leb 1 n && leb n 4 && m)

@@ -1,7 +1,5 @@
 // The range check: every held number of a plant, settings included, is in its range (number 15), and the settings of one crossing (number 3).
 // Each test equals its definition in the machine's Range and Plant; no function has a `requires`.
-pub mod booms;
-
 use machine::Crossing;
 use machine::Entry;
 use machine::Plant;
@@ -27,23 +25,6 @@ ghost use Rattle.machine.specs.Range.{
 };
 
 // Settings ------------------------------------------------------------------------------------------------------------------------
-
-// Track t depends on a route: bit t of the mask.
-pub fn dependent(s: Entry, t: usize) -> bool
-    ensures { λ r. ⌜ r ≡ dependent s t ⌝ }
-{
-    if t < 8 { (s.mask >> t) % 2 == 1 } else { false }
-}
-
-// The booms that a kind has.
-pub fn boom_count(kind: u8) -> u8
-    ensures { λ r. ⌜ r ≡ boom-count kind ⌝ }
-{
-    if kind <= 1 {
-        return 0;
-    }
-    if kind == 4 { 4 } else { 2 }
-}
 
 // Tracks 1 to 4, and no bit of the mask at or above that number.
 fn tracks_in(tracks: u8, mask: u8) -> bool
@@ -118,7 +99,7 @@ fn track_in(s: Entry, c: Crossing, t: usize) -> bool
 {
     let tracks = s.tracks as usize;
     (together(c.calling[t], c.waiting[t]) <= Crossing::FULL as u16)
-        & (dependent(s, t) | ((c.waiting[t] == 0) & !c.route[t]))
+        & (kind::dependent(s, t) | ((c.waiting[t] == 0) & !c.route[t]))
         & ((t < tracks) | track_zero(c, t))
 }
 
@@ -133,7 +114,7 @@ fn report_limit(present: bool) -> u8
 fn booms_in(s: Entry, c: Crossing) -> bool
     ensures { λ r. ⌜ r ≡ all-below 4 (boom-in s c) ⌝ }
 {
-    let count = boom_count(s.kind);
+    let count = kind::boom_count(s.kind);
     (c.booms[0] <= report_limit(0 < count))
         & (c.booms[1] <= report_limit(1 < count))
         & (c.booms[2] <= report_limit(2 < count))

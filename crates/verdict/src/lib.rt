@@ -19,15 +19,15 @@ const UNKNOWN_PLACE: u8 = 7;
 
 const UNKNOWN_VALUE: u8 = 8;
 
-const FULL_TRACK: u8 = 9;
+const TRACK_FULL: u8 = 9;
 
-const GHOST_PASSAGE: u8 = 10;
+const NO_TRAIN: u8 = 10;
 
 const TRAIN_CALLING: u8 = 11;
 
 const NOT_CLEAR: u8 = 12;
 
-const PLAIN_TRACK: u8 = 13;
+const NOT_DEPENDENT: u8 = 13;
 
 // The event that is taken, or the number that refuses it.
 pub enum Verdict {
@@ -51,7 +51,7 @@ fn place_limit(s: Entry, code: u8) -> u8
         2 => s.tracks,
         5 => s.tracks,
         6 => s.tracks,
-        8 => plant::boom_count(s.kind),
+        8 => kind::boom_count(s.kind),
         9 => 5,
         _ => 1,
     }
@@ -127,8 +127,8 @@ fn judge_state(s: Entry, c: Crossing, e: Event) -> Verdict
 {
     let code = e.code;
     match code {
-        1 => refuse_if(wide(Crossing::FULL) <= trains_at(c, e.place), FULL_TRACK, e),
-        2 => refuse_if(trains_at(c, e.place) == 0, GHOST_PASSAGE, e),
+        1 => refuse_if(wide(Crossing::FULL) <= trains_at(c, e.place), TRACK_FULL, e),
+        2 => refuse_if(trains_at(c, e.place) == 0, NO_TRAIN, e),
         4 => {
             let calling = c.calling;
             refuse_if(
@@ -139,7 +139,7 @@ fn judge_state(s: Entry, c: Crossing, e: Event) -> Verdict
         }
         5 => {
             let t = e.place as usize;
-            refuse_if(!plant::dependent(s, t), PLAIN_TRACK, e)
+            refuse_if(!kind::dependent(s, t), NOT_DEPENDENT, e)
         }
         7 => refuse_if(blocked(c), NOT_CLEAR, e),
         _ => Verdict::Take(e),

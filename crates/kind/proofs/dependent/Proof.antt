@@ -1,10 +1,10 @@
 use mathlib.Core.Path.{refl}
 use native.Mathlib.Omega.{arith}
-use Rattle.plant.proofs.Laws.{no-bit}
+use Rattle.kind.proofs.Laws.{no-bit}
 use Rattle.machine.specs.Plant.{dependent}
 use borrow.Author.Needs.{needs}
-use Rattle.plant.proofs.dependent.Statement.{statement}
-use Rattle.plant.proofs.dependent.Tie as tie
+use Rattle.kind.proofs.dependent.Statement.{statement}
+use Rattle.kind.proofs.dependent.Tie as tie
 
 cast-result : tie.Need-cast-result
 cast-result c = search needs

@@ -1,7 +1,7 @@
-use Rattle.machine.specs.Plant.{booms-down}
+use Rattle.machine.specs.Plant.{booms-up}
 use borrow.Author.Needs.{needs}
-use Rattle.plant.proofs.booms.down.Statement.{statement}
-use Rattle.plant.proofs.booms.down.Tie as tie
+use Rattle.kind.proofs.booms.up.Statement.{statement}
+use Rattle.kind.proofs.booms.up.Tie as tie
 
 array-read-t6 : tie.Need-array-read-t6
 array-read-t6 c = search needs
@@ -19,10 +19,10 @@ each-requires : tie.Need-each-requires
 each-requires c κs = search needs
 
 returns : tie.Need-returns
-unfolding booms-down
+unfolding booms-up
 returns c = simp (c .each .ensures)
 
-pub down-spec : {M : Type 1} → statement M
-down-spec =
+pub up-spec : {M : Type 1} → statement M
+up-spec =
     tie.close
     (tie.spec array-read-t6 array-read-t10 array-read-t14 array-read-t18 each-requires returns)

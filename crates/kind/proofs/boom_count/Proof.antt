@@ -1,6 +1,6 @@
 use borrow.Author.Tests.{eq-eqb, le-leb, lt-leb, ne-eqb}
-use Rattle.plant.proofs.boom_count.Statement.{statement}
-use Rattle.plant.proofs.boom_count.Tie as tie
+use Rattle.kind.proofs.boom_count.Statement.{statement}
+use Rattle.kind.proofs.boom_count.Tie as tie
 
 returns : tie.Need-returns
 returns c = simp (le-leb _ _ (c .if1 .taken))

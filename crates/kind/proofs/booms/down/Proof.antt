@@ -1,7 +1,7 @@
-use Rattle.machine.specs.Plant.{booms-up}
+use Rattle.machine.specs.Plant.{booms-down}
 use borrow.Author.Needs.{needs}
-use Rattle.plant.proofs.booms.up.Statement.{statement}
-use Rattle.plant.proofs.booms.up.Tie as tie
+use Rattle.kind.proofs.booms.down.Statement.{statement}
+use Rattle.kind.proofs.booms.down.Tie as tie
 
 array-read-t6 : tie.Need-array-read-t6
 array-read-t6 c = search needs
@@ -19,10 +19,10 @@ each-requires : tie.Need-each-requires
 each-requires c κs = search needs
 
 returns : tie.Need-returns
-unfolding booms-up
+unfolding booms-down
 returns c = simp (c .each .ensures)
 
-pub up-spec : {M : Type 1} → statement M
-up-spec =
+pub down-spec : {M : Type 1} → statement M
+down-spec =
     tie.close
     (tie.spec array-read-t6 array-read-t10 array-read-t14 array-read-t18 each-requires returns)

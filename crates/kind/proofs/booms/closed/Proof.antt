@@ -1,8 +1,8 @@
 use borrow.Author.Tests.{eq-eqb, ne-eqb}
 use Rattle.machine.specs.Plant.{booms-closed, booms-down}
 use borrow.Author.Needs.{needs}
-use Rattle.plant.proofs.booms.closed.Statement.{statement}
-use Rattle.plant.proofs.booms.closed.Tie as tie
+use Rattle.kind.proofs.booms.closed.Statement.{statement}
+use Rattle.kind.proofs.booms.closed.Tie as tie
 
 array-read-t7 : tie.Need-array-read-t7
 array-read-t7 c = search needs

@@ -1,6 +1,6 @@
 use borrow.Author.Needs.{needs}
-use Rattle.plant.proofs.booms.each.Statement.{statement}
-use Rattle.plant.proofs.booms.each.Tie as tie
+use Rattle.kind.proofs.booms.each.Statement.{statement}
+use Rattle.kind.proofs.booms.each.Tie as tie
 
 boom-count-requires : tie.Need-boom-count-requires
 boom-count-requires c κs = search needs

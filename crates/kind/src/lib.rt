@@ -1,0 +1,23 @@
+// What a kind and a mask give a crossing: its booms and its dependent tracks (document 01, "Site book").
+pub mod booms;
+
+use machine::Entry;
+ghost use mathlib.Core.Path.{_≡_};
+ghost use Rattle.machine.specs.Plant.{boom-count, dependent};
+
+// Track t depends on a route: bit t of the mask.
+pub fn dependent(s: Entry, t: usize) -> bool
+    ensures { λ r. ⌜ r ≡ dependent s t ⌝ }
+{
+    if t < 8 { (s.mask >> t) % 2 == 1 } else { false }
+}
+
+// The booms that a kind has.
+pub fn boom_count(kind: u8) -> u8
+    ensures { λ r. ⌜ r ≡ boom-count kind ⌝ }
+{
+    if kind <= 1 {
+        return 0;
+    }
+    if kind == 4 { 4 } else { 2 }
+}
