@@ -40,7 +40,7 @@ fn wide(x: u8) -> u64 {
 
 // The line of crossing i. Inside this crate alone: the panel has its sixteen bytes.
 fn print_row(panel: &[u8], i: usize)
-    requires { ⌜ (16 * i + 16 ≤ length (now panel)) × (i ≤ 8) ⌝ }
+    requires { ⌜ (16 * i + 16 ≤ length (now panel)) × (i ≤ 255) ⌝ }
 {
     io::print_decimal(STDOUT_FILENO, i as u64);
     io::write_all(STDOUT_FILENO, b":");
@@ -53,14 +53,13 @@ fn print_row(panel: &[u8], i: usize)
     io::write_all(STDOUT_FILENO, b"\n");
 }
 
-// The lines of the first n crossings.
-fn print_panel(panel: &[u8], n: usize) {
+// The lines of the first n crossings, as far as the panel has them.
+fn print_panel(panel: &[u8], n: u8) {
+    let count = n as usize;
     let mut i: usize = 0;
-    while i < 8 {
-        if i < n {
-            if 16 * i + 16 <= panel.len() {
-                print_row(panel, i);
-            }
+    while i < count {
+        if 16 * i + 16 <= panel.len() {
+            print_row(panel, i);
         }
         i = i + 1;
     }
@@ -72,7 +71,7 @@ fn print(r: Outcome, panel: &[u8]) {
         return;
     }
     print_counts(r.taken, r.refused, r.written);
-    print_panel(panel, r.n as usize);
+    print_panel(panel, r.n);
 }
 
 // The buffers have one byte more than the longest book and the longest sheet, so that a longer file has a wrong length.
