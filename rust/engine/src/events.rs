@@ -59,9 +59,8 @@ pub(crate) fn apply(plant: &mut Plant, event: [u8; 4]) -> Result<u32, u8> {
 fn tick(plant: &mut Plant) -> u32 {
     plant.beat = (plant.beat + 1) % 4;
     let n = usize::from(plant.site.n);
-    let records = plant.crossings.iter_mut().zip(&plant.site.entries);
     let mut written_off = 0;
-    for (record, entry) in records.take(n) {
+    for (record, entry) in plant.crossings[..n].iter_mut().zip(&plant.site.entries) {
         written_off += record.count_down();
         record.run_timer(entry);
         record.settle(entry);
