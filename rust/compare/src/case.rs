@@ -1,0 +1,197 @@
+//! One input for both engines, and how it is made.
+
+use engine::{book_len, panel_len, Plant, Site, MAX_EVENTS};
+use gen::{
+    all_lengths, book, coherent, damaged_book, damaged_sheet, event, event_grid, frame, junk_event,
+    mixed, plant, quick_site, sheet_bytes, site, spoilt_plant, BookDamage, Rng, SheetDamage, Spoil,
+};
+
+/// An input; frames hold the bytes lent.
+#[derive(Clone, PartialEq, Debug)]
+pub enum Case {
+    Read {
+        book: Vec<u8>,
+    },
+    Write {
+        site: Site,
+        frame: Vec<u8>,
+    },
+    Event {
+        plant: Plant,
+        event: [u8; 4],
+    },
+    Draw {
+        plant: Plant,
+        frame: Vec<u8>,
+    },
+    Run {
+        plant: Plant,
+        sheet: Vec<u8>,
+        frame: Vec<u8>,
+    },
+    /// From the fresh plant of a book, event by event and as a sheet.
+    Session {
+        site: Site,
+        events: Vec<[u8; 4]>,
+    },
+}
+
+impl Case {
+    /// Case `index` under `seed`.
+    pub fn make(seed: u64, index: u64) -> Case {
+        let rng = &mut Rng::of_case(seed, index);
+        match rng.weighted(&[4, 4, 16, 10, 4, 4]) {
+            0 => read_case(rng),
+            1 => write_case(rng),
+            2 => event_case(rng),
+            3 => draw_case(rng),
+            4 => run_case(rng),
+            _ => session_case(rng),
+        }
+    }
+
+    /// Session `index` under `seed`.
+    pub fn session(seed: u64, index: u64) -> Case {
+        session_case(&mut Rng::of_case(seed, index))
+    }
+
+    /// The cases that do not depend on a seed: books and frames of every length, and a
+    /// grid of events on a few plants.
+    pub fn fixed() -> Vec<Case> {
+        let books = all_lengths().into_iter();
+        let mut cases: Vec<Case> = books.map(|book| Case::Read { book }).collect();
+        let rng = &mut Rng::new(0);
+        for _ in 0..12 {
+            let plant = plant(rng);
+            let grid = event_grid().into_iter();
+            cases.extend(grid.map(|event| Case::Event { plant, event }));
+            cases.extend(all_frames(&plant));
+        }
+        cases
+    }
+
+    pub fn name(&self) -> &'static str {
+        match self {
+            Case::Read { .. } => "read book",
+            Case::Write { .. } => "write book",
+            Case::Event { .. } => "event",
+            Case::Draw { .. } => "draw",
+            Case::Run { .. } => "run",
+            Case::Session { .. } => "session",
+        }
+    }
+}
+
+/// Frames of every length up to 140 for the three calls that are lent one.
+fn all_frames(plant: &Plant) -> Vec<Case> {
+    let mut cases = Vec::new();
+    for len in 0..=140 {
+        let frame = vec![0xa5; len];
+        cases.push(Case::Write {
+            site: plant.site,
+            frame: frame.clone(),
+        });
+        cases.push(Case::Draw {
+            plant: *plant,
+            frame: frame.clone(),
+        });
+        cases.push(Case::Run {
+            plant: *plant,
+            sheet: sheet_bytes(&[[0; 4]]),
+            frame,
+        });
+    }
+    cases
+}
+
+fn read_case(rng: &mut Rng) -> Case {
+    let book = match rng.below(4) {
+        0 => book(rng),
+        _ => {
+            let damage = rng.pick(&BookDamage::ALL);
+            damaged_book(rng, damage)
+        }
+    };
+    Case::Read { book }
+}
+
+fn write_case(rng: &mut Rng) -> Case {
+    let settings = &Spoil::ALL[..=Spoil::EntryPastGap as usize];
+    let site = match rng.flag() {
+        true => site(rng),
+        false => {
+            let spoil = rng.pick(settings);
+            spoilt_plant(rng, spoil).site
+        }
+    };
+    let frame = frame(rng, book_len(site.n));
+    Case::Write { site, frame }
+}
+
+/// A plant in range, or once in five a spoilt one.
+fn any_plant(rng: &mut Rng) -> Plant {
+    match rng.below(5) {
+        0 => {
+            let spoil = rng.pick(Spoil::ALL);
+            spoilt_plant(rng, spoil)
+        }
+        _ => plant(rng),
+    }
+}
+
+fn event_case(rng: &mut Rng) -> Case {
+    let plant = any_plant(rng);
+    let event = match rng.below(4) {
+        0 => junk_event(rng, &plant),
+        1 => [0, 0, 0, 0],
+        _ => event(rng, &plant),
+    };
+    Case::Event { plant, event }
+}
+
+fn draw_case(rng: &mut Rng) -> Case {
+    let plant = any_plant(rng);
+    let frame = frame(rng, panel_len(plant.site.n));
+    Case::Draw { plant, frame }
+}
+
+fn run_case(rng: &mut Rng) -> Case {
+    let spoilt = rng.once_in(8);
+    let plant = if spoilt { any_plant(rng) } else { plant(rng) };
+    let len = rng.within(0..=40) as usize;
+    let events = match plant.in_range() && rng.flag() {
+        true => coherent(rng, &plant, len),
+        false => mixed(rng, &plant, len),
+    };
+    let mut sheet = sheet_bytes(&events);
+    if rng.once_in(3) {
+        let damage = rng.pick(&SheetDamage::ALL);
+        sheet = damaged_sheet(rng, sheet, damage);
+    }
+    let frame = frame(rng, panel_len(plant.site.n));
+    Case::Run {
+        plant,
+        sheet,
+        frame,
+    }
+}
+
+fn session_case(rng: &mut Rng) -> Case {
+    let site = match rng.below(3) {
+        0 => site(rng),
+        _ => quick_site(rng),
+    };
+    let len = match rng.below(16) {
+        0..=7 => rng.below(60) as usize,
+        8..=11 => rng.below(400) as usize,
+        12..=13 => rng.below(1500) as usize,
+        14 => rng.below(MAX_EVENTS as u32) as usize,
+        _ => MAX_EVENTS,
+    };
+    let fresh = Plant::fresh(&site);
+    let events = match rng.below(4) {
+        0 => mixed(rng, &fresh, len),
+        _ => coherent(rng, &fresh, len),
+    };
+    Case::Session { site, events }
+}

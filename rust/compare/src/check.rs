@@ -1,0 +1,152 @@
+//! Puts one case to both engines and looks for a difference.
+
+use crate::case::Case;
+use crate::print::hex;
+use crate::Engine;
+use engine::{book_len, panel_len, Plant, Site};
+use gen::{book_bytes, sheet_bytes, Call, Coverage};
+use std::fmt::Debug;
+
+/// The two engines, the plain one first.
+#[derive(Clone, Copy)]
+pub struct Pair<'a> {
+    pub first: &'a dyn Engine,
+    pub second: &'a dyn Engine,
+}
+
+/// What differs, in words.
+pub type Check = Result<(), String>;
+
+impl Pair<'_> {
+    /// Compares every answer, plant and lent byte of a case; counts what the first did.
+    pub fn check(&self, case: &Case, seen: &mut Coverage) -> Check {
+        match case {
+            Case::Read { book } => self.read(book, seen),
+            Case::Write { site, frame } => self.write(site, frame, seen),
+            Case::Event { plant, event } => {
+                let mut plant = *plant;
+                self.event(&mut plant, *event, seen)
+            }
+            Case::Draw { plant, frame } => self.draw(plant, &mut frame.clone(), seen),
+            Case::Run {
+                plant,
+                sheet,
+                frame,
+            } => self.run(plant, sheet, frame, seen),
+            Case::Session { site, events } => self.session(site, events, seen),
+        }
+    }
+
+    fn read(&self, book: &[u8], seen: &mut Coverage) -> Check {
+        let (number, plant) = self.first.read_book(book);
+        let (other, other_plant) = self.second.read_book(book);
+        seen.call(Call::ReadBook, number);
+        same("number", &number, &other)?;
+        same_plant(&plant, &other_plant)?;
+        if number != 0 {
+            return Ok(());
+        }
+        let mut back = vec![0x55; book.len()];
+        same(
+            "write of a book read",
+            &0,
+            &self.second.write_book(&plant.site, &mut back),
+        )?;
+        same_bytes("book read and written", book, &back)
+    }
+
+    fn write(&self, site: &Site, frame: &[u8], seen: &mut Coverage) -> Check {
+        let (mut out, mut other_out) = (frame.to_vec(), frame.to_vec());
+        let number = self.first.write_book(site, &mut out);
+        let other = self.second.write_book(site, &mut other_out);
+        seen.call(Call::WriteBook, number);
+        same("number", &number, &other)?;
+        same_bytes("book", &out, &other_out)?;
+        if number != 0 {
+            return same_bytes("book of a refused call", &out, frame);
+        }
+        let (number, plant) = self.second.read_book(&out);
+        same("read of a book written", &0, &number)?;
+        same_plant(&Plant::fresh(site), &plant)
+    }
+
+    /// One event; `plant` becomes the plant after it.
+    fn event(&self, plant: &mut Plant, e: [u8; 4], seen: &mut Coverage) -> Check {
+        let before = *plant;
+        let mut other_plant = before;
+        let answer = self.first.event(plant, e);
+        let other = self.second.event(&mut other_plant, e);
+        seen.event(&before, e, answer, plant);
+        same("number and written off", &answer, &other)?;
+        same_plant(plant, &other_plant)
+    }
+
+    /// One panel, into `frame`.
+    fn draw(&self, plant: &Plant, frame: &mut [u8], seen: &mut Coverage) -> Check {
+        let mut other_frame = frame.to_vec();
+        let number = self.first.draw(plant, frame);
+        let other = self.second.draw(plant, &mut other_frame);
+        seen.call(Call::Draw, number);
+        same("number of a panel", &number, &other)?;
+        if number == 0 {
+            seen.panel(plant, frame);
+        }
+        same_bytes("panel", frame, &other_frame)
+    }
+
+    /// One run.
+    fn run(&self, plant: &Plant, sheet: &[u8], frame: &[u8], seen: &mut Coverage) -> Check {
+        let (mut after, mut other_after) = (*plant, *plant);
+        let (mut panel, mut other_panel) = (frame.to_vec(), frame.to_vec());
+        let answer = self.first.run(&mut after, sheet, &mut panel);
+        let other = self.second.run(&mut other_after, sheet, &mut other_panel);
+        seen.call(Call::Run, answer.number);
+        same("run", &answer, &other)?;
+        same_plant(&after, &other_after)?;
+        same_bytes("panel of a run", &panel, &other_panel)
+    }
+
+    fn session(&self, site: &Site, events: &[[u8; 4]], seen: &mut Coverage) -> Check {
+        let book = book_bytes(site);
+        self.read(&book, seen)?;
+        let (_, mut plant) = self.first.read_book(&book);
+        let mut panel = vec![0xc3; panel_len(site.n)];
+        self.run(&plant, &sheet_bytes(events), &panel, seen)?;
+        self.draw(&plant, &mut panel, seen)?;
+        for (i, e) in events.iter().enumerate() {
+            let step = self.event(&mut plant, *e, seen);
+            let step = step.and_then(|_| self.draw(&plant, &mut panel, seen));
+            step.map_err(|what| format!("event {i}: {what}"))?;
+        }
+        let mut back = vec![0; book_len(site.n)];
+        let number = self.second.write_book(&plant.site, &mut back);
+        same("write of the site", &0, &number)?;
+        same_bytes("book of the site", &book, &back)
+    }
+}
+
+fn same<T: PartialEq + Debug + ?Sized>(what: &str, first: &T, second: &T) -> Check {
+    if first == second {
+        return Ok(());
+    }
+    Err(format!("{what}\n  first  {first:?}\n  second {second:?}"))
+}
+
+fn same_bytes(what: &str, first: &[u8], second: &[u8]) -> Check {
+    if first == second {
+        return Ok(());
+    }
+    same(what, &hex(first), &hex(second))
+}
+
+fn same_plant(first: &Plant, second: &Plant) -> Check {
+    if first == second {
+        return Ok(());
+    }
+    same("site", &first.site, &second.site)?;
+    same("beat", &first.beat, &second.beat)?;
+    for (i, (a, b)) in first.crossings.iter().zip(&second.crossings).enumerate() {
+        same(&format!("crossing {i}"), a, b)?;
+    }
+    Ok(())
+}

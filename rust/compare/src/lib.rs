@@ -1,0 +1,22 @@
+//! Compares two crossing engines over generated inputs.
+
+pub mod case;
+pub mod check;
+pub mod engines;
+pub mod print;
+pub mod search;
+pub mod second;
+pub mod shrink;
+pub mod speed;
+
+pub use engine::{Plant, Run, Site};
+
+/// The five calls of a crossing engine.
+pub trait Engine {
+    fn name(&self) -> String;
+    fn read_book(&self, book: &[u8]) -> (u8, Plant);
+    fn write_book(&self, site: &Site, out: &mut [u8]) -> u8;
+    fn event(&self, plant: &mut Plant, event: [u8; 4]) -> (u8, u32);
+    fn draw(&self, plant: &Plant, panel: &mut [u8]) -> u8;
+    fn run(&self, plant: &mut Plant, sheet: &[u8], panel: &mut [u8]) -> Run;
+}

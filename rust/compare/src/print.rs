@@ -1,0 +1,93 @@
+//! A case as text, with the bytes of site.bin and sheet.bin.
+
+use crate::case::Case;
+use engine::{Crossing, Entry, Plant, Site};
+use gen::{book_bytes, sheet_bytes};
+use std::fmt::Write;
+
+pub fn hex(bytes: &[u8]) -> String {
+    let words: Vec<String> = bytes.iter().map(|b| format!("{b:02x}")).collect();
+    words.join(" ")
+}
+
+/// The bytes of site.bin and sheet.bin for a case, as far as it has them.
+pub fn files(case: &Case) -> (Option<Vec<u8>>, Option<Vec<u8>>) {
+    let book = |site: &Site| (site.n <= 8).then(|| book_bytes(site));
+    match case {
+        Case::Read { book } => (Some(book.clone()), None),
+        Case::Write { site, .. } => (book(site), None),
+        Case::Event { plant, event } => (book(&plant.site), Some(sheet_bytes(&[*event]))),
+        Case::Draw { plant, .. } => (book(&plant.site), Some(sheet_bytes(&[]))),
+        Case::Run { plant, sheet, .. } => (book(&plant.site), Some(sheet.clone())),
+        Case::Session { site, events } => (book(site), Some(sheet_bytes(events))),
+    }
+}
+
+/// How many events a case has.
+pub fn event_count(case: &Case) -> usize {
+    match case {
+        Case::Event { .. } => 1,
+        Case::Run { sheet, .. } => sheet.len().saturating_sub(2) / 4,
+        Case::Session { events, .. } => events.len(),
+        _ => 0,
+    }
+}
+
+fn start(case: &Case) -> Option<&Plant> {
+    match case {
+        Case::Event { plant, .. } | Case::Draw { plant, .. } | Case::Run { plant, .. } => {
+            Some(plant)
+        }
+        _ => None,
+    }
+}
+
+fn lent(case: &Case) -> Option<usize> {
+    match case {
+        Case::Write { frame, .. } | Case::Draw { frame, .. } | Case::Run { frame, .. } => {
+            Some(frame.len())
+        }
+        _ => None,
+    }
+}
+
+/// A plant, without the entries and records that are zero.
+fn plant_text(plant: &Plant) -> String {
+    let mut text = format!("beat {}, n {}\n", plant.beat, plant.site.n);
+    for (i, entry) in plant.site.entries.iter().enumerate() {
+        if *entry != Entry::ZERO {
+            let _ = writeln!(text, "  {i}: {entry:?}");
+        }
+    }
+    for (i, record) in plant.crossings.iter().enumerate() {
+        if *record != Crossing::ZERO {
+            let _ = writeln!(text, "  {i}: {record:?}");
+        }
+    }
+    text
+}
+
+/// Everything needed to play a case again.
+pub fn text(case: &Case) -> String {
+    let mut text = format!("{}\n", case.name());
+    let (site, sheet) = files(case);
+    if let Some(site) = site {
+        let _ = writeln!(text, "site.bin  {}", hex(&site));
+    }
+    if let Some(sheet) = sheet {
+        let _ = writeln!(text, "sheet.bin {}", hex(&sheet));
+    }
+    if let Some(len) = lent(case) {
+        let _ = writeln!(text, "lent      {len} bytes");
+    }
+    if let Case::Write { site, .. } = case {
+        let _ = writeln!(text, "settings  {site:?}");
+    }
+    match start(case) {
+        Some(plant) if *plant != Plant::fresh(&plant.site) => {
+            let _ = write!(text, "from      {}", plant_text(plant));
+        }
+        _ => text.push_str("from      the fresh plant\n"),
+    }
+    text
+}

@@ -1,0 +1,152 @@
+//! Goes through generated cases until a difference, a count or a time.
+
+use crate::case::Case;
+use crate::check::Pair;
+use crate::engines::{Plain, Planted};
+use crate::print::event_count;
+use crate::shrink::shrink;
+use engine::faulty::Fault;
+use gen::Coverage;
+use std::time::{Duration, Instant};
+
+/// Events put to the engines while one difference is made small.
+const SHRINK_EVENTS: usize = 3_000_000;
+
+/// Which cases, where to begin and when to end.
+#[derive(Clone, Copy)]
+pub struct Plan {
+    pub seed: u64,
+    pub first: u64,
+    pub cases: Option<u64>,
+    pub time: Option<Duration>,
+    /// Only sessions, which begin at a fresh plant.
+    pub sessions: bool,
+}
+
+impl Plan {
+    /// So many cases of any kind.
+    pub fn of_cases(seed: u64, cases: u64) -> Plan {
+        Plan {
+            seed,
+            first: 0,
+            cases: Some(cases),
+            time: None,
+            sessions: false,
+        }
+    }
+}
+
+/// A case on which the engines differ.
+pub struct Difference {
+    /// Its place among the seeded cases; none for a fixed case.
+    pub index: Option<u64>,
+    pub case: Case,
+}
+
+/// What a search came to.
+pub struct Outcome {
+    pub cases: u64,
+    pub seen: Coverage,
+    pub difference: Option<Difference>,
+}
+
+impl Plan {
+    fn case(&self, index: u64) -> Case {
+        match self.sessions {
+            true => Case::session(self.seed, index),
+            false => Case::make(self.seed, index),
+        }
+    }
+
+    fn is_over(&self, done: u64, since: Instant) -> bool {
+        self.cases.is_some_and(|cases| done >= cases)
+            || self.time.is_some_and(|time| since.elapsed() >= time)
+    }
+}
+
+/// Compares over the fixed cases.
+pub fn search_fixed(pair: Pair) -> Outcome {
+    let mut seen = Coverage::new();
+    let cases = Case::fixed();
+    let count = cases.len() as u64;
+    let mut cases = cases.into_iter();
+    let differs = cases.find(|case| pair.check(case, &mut seen).is_err());
+    Outcome {
+        cases: count,
+        seen,
+        difference: differs.map(|case| Difference { index: None, case }),
+    }
+}
+
+/// Compares until the plan ends or the engines differ; calls `progress` now and then.
+pub fn search(pair: Pair, plan: Plan, progress: &mut dyn FnMut(u64, &Coverage)) -> Outcome {
+    let since = Instant::now();
+    let mut seen = Coverage::new();
+    let mut cases = 0;
+    while !plan.is_over(cases, since) {
+        let index = plan.first + cases;
+        let case = plan.case(index);
+        cases += 1;
+        if pair.check(&case, &mut seen).is_err() {
+            let index = Some(index);
+            return Outcome {
+                cases,
+                seen,
+                difference: Some(Difference { index, case }),
+            };
+        }
+        progress(cases, &seen);
+    }
+    Outcome {
+        cases,
+        seen,
+        difference: None,
+    }
+}
+
+/// The smallest case found that still differs, and what differs in it.
+pub fn reduce(pair: Pair, case: Case) -> (Case, String) {
+    let mut unseen = Coverage::new();
+    let mut left = SHRINK_EVENTS;
+    let case = shrink(case, &mut |c| {
+        let cost = 50 + event_count(c);
+        let affordable = left >= cost;
+        left -= cost.min(left);
+        affordable && pair.check(c, &mut unseen).is_err()
+    });
+    let what = pair.check(&case, &mut unseen).err().unwrap_or_default();
+    (case, what)
+}
+
+/// How a planted fault was found.
+pub struct Found {
+    pub cases: u64,
+    pub time: Duration,
+    pub case: Case,
+}
+
+/// Looks for a planted fault.
+pub fn find_fault(fault: &Fault, plan: Plan) -> Option<Found> {
+    let planted = Planted::fault(fault);
+    let pair = Pair {
+        first: &Plain,
+        second: &planted,
+    };
+    let since = Instant::now();
+    let outcome = search(pair, plan, &mut |_, _| {});
+    Some(Found {
+        cases: outcome.cases,
+        time: since.elapsed(),
+        case: outcome.difference?.case,
+    })
+}
+
+/// How many events the smallest case found for a planted fault has.
+pub fn smallest(fault: &Fault, found: &Found) -> usize {
+    let planted = Planted::fault(fault);
+    let pair = Pair {
+        first: &Plain,
+        second: &planted,
+    };
+    event_count(&reduce(pair, found.case.clone()).0)
+}

@@ -1,0 +1,156 @@
+//! The train account, the passage rule and the opening tick over generated sessions,
+//! with reasons and trains worked out from the list of events alone.
+
+use compare::case::Case;
+use engine::{draw, event, panel_len, Entry, Plant, Site, PANEL};
+
+/// What the list says of one crossing.
+#[derive(Clone, Copy, Default)]
+struct Account {
+    struck_in: u32,
+    passed: u32,
+    written_off: u32,
+    calling: [u32; 4],
+    waiting: [u32; 4],
+    route: [bool; 4],
+    holds: [bool; 2],
+    countdown: u32,
+    /// Ticks for which a reason has stood unbroken.
+    stood: u32,
+    booms: [u8; 4],
+    red_dead: bool,
+}
+
+impl Account {
+    fn reason(&self) -> bool {
+        self.calling != [0; 4] || self.holds != [false; 2]
+    }
+
+    fn strike_in(&mut self, entry: &Entry, t: usize) {
+        self.struck_in += 1;
+        self.countdown = 0;
+        match entry.mask >> t & 1 == 0 || self.route[t] {
+            true => self.calling[t] += 1,
+            false => self.waiting[t] += 1,
+        }
+    }
+
+    fn pass(&mut self, t: usize) {
+        self.passed += 1;
+        match self.calling[t] > 0 {
+            true => self.calling[t] -= 1,
+            false => self.waiting[t] -= 1,
+        }
+    }
+
+    fn set_route(&mut self, t: usize, on: bool) {
+        self.route[t] = on;
+        if on {
+            self.calling[t] += self.waiting[t];
+            self.waiting[t] = 0;
+        }
+    }
+
+    fn tick(&mut self) {
+        if self.countdown == 1 {
+            let trains = self.calling.iter().chain(&self.waiting);
+            self.written_off += trains.sum::<u32>();
+            self.calling = [0; 4];
+            self.waiting = [0; 4];
+        }
+        self.countdown = self.countdown.saturating_sub(1);
+        self.stood += 1;
+    }
+
+    fn take(&mut self, entry: &Entry, [code, _, place, value]: [u8; 4]) {
+        let place = usize::from(place);
+        match code {
+            1 => self.strike_in(entry, place),
+            2 => self.pass(place),
+            3 | 4 => self.holds[usize::from(code) - 3] = value == 1,
+            5 => self.set_route(place, value == 1),
+            7 => self.countdown = 270,
+            8 => self.booms[place] = value,
+            9 if place == 1 => self.red_dead = value == 0,
+            _ => {}
+        }
+        if (3..=6).contains(&code) && value == 1 {
+            self.countdown = 0;
+        }
+    }
+
+    fn closed(&self, kind: u8) -> bool {
+        match kind {
+            1 => true,
+            2 => !self.booms[..2].contains(&0),
+            3 => self.booms[..2] == [2; 2],
+            _ => self.booms == [2; 4],
+        }
+    }
+}
+
+fn play(accounts: &mut [Account; 8], site: &Site, e: [u8; 4]) {
+    let n = usize::from(site.n);
+    if e[0] == 0 {
+        accounts[..n].iter_mut().for_each(Account::tick);
+    } else {
+        let c = usize::from(e[1]);
+        accounts[c].take(&site.entries[c], e);
+    }
+    for account in accounts.iter_mut().filter(|a| !a.reason()) {
+        account.stood = 0;
+    }
+}
+
+/// The three parts at one crossing after the list.
+fn hold(account: &Account, plant: &Plant, i: usize, panel: &[u8]) {
+    let (entry, record) = (&plant.site.entries[i], &plant.crossings[i]);
+    let trains = record.calling.iter().chain(&record.waiting);
+    let there: u32 = trains.map(|t| u32::from(*t)).sum();
+    let gone = account.passed + account.written_off;
+    assert_eq!(account.struck_in, gone + there);
+    if panel[6] == 2 || panel[8] != 0 {
+        assert!(account.reason() && account.closed(entry.kind) && !account.red_dead);
+        assert!(account.stood >= u32::from(entry.pre + entry.gap));
+    }
+    if !account.reason() {
+        assert_eq!(panel[4..6], [0, 0]);
+        if account.booms == [0; 4] {
+            let mut after = *plant;
+            assert_eq!(event(&mut after, [0; 4]).0, 0);
+            let mut panel = vec![0; panel_len(plant.site.n)];
+            assert_eq!(draw(&after, &mut panel), 0);
+            assert_eq!(panel[PANEL * i + 9] & 1, 1);
+        }
+    }
+}
+
+fn session(site: &Site, events: &[[u8; 4]]) {
+    let mut plant = Plant::fresh(site);
+    let mut accounts = [Account::default(); 8];
+    let mut panel = vec![0; panel_len(site.n)];
+    let mut answered = 0;
+    for e in events {
+        let (number, written_off) = event(&mut plant, *e);
+        if number == 0 {
+            play(&mut accounts, site, *e);
+        }
+        answered += written_off;
+        assert_eq!(draw(&plant, &mut panel), 0);
+        for (i, bytes) in panel.chunks_exact(PANEL).enumerate() {
+            hold(&accounts[i], &plant, i, bytes);
+        }
+    }
+    let written_off: u32 = accounts.iter().map(|a| a.written_off).sum();
+    assert_eq!(written_off, answered);
+}
+
+#[test]
+fn the_three_parts_hold_after_every_event() {
+    for index in 0..1500 {
+        let Case::Session { site, events } = Case::session(9, index) else {
+            panic!("not a session");
+        };
+        session(&site, &events);
+    }
+}

@@ -1,0 +1,79 @@
+//! The comparison finds every planted fault, and nothing where none is planted.
+
+use compare::check::Pair;
+use compare::engines::{Plain, Planted};
+use compare::print::text;
+use compare::search::{find_fault, search, search_fixed, Plan};
+use engine::faulty::FAULTS;
+
+const CASES: u64 = 10_000;
+const SESSIONS: u64 = 400;
+
+/// Faults that no list of events from a fresh plant can show: in the lent frames, in the
+/// order of refusals of a book, in spoilt plants, and a repeated hold, since a hold stands
+/// in the way of a running countdown.
+const NOT_FROM_FRESH: [u32; 11] = [1, 2, 3, 4, 6, 7, 8, 9, 21, 50, 51];
+
+#[test]
+fn every_planted_fault_is_found() {
+    for seed in [1, 2] {
+        let plan = Plan::of_cases(seed, CASES);
+        let missed = FAULTS.iter().filter(|f| find_fault(f, plan).is_none());
+        let missed: Vec<&str> = missed.map(|f| f.text).collect();
+        assert!(missed.is_empty(), "seed {seed}: not found {missed:?}");
+    }
+}
+
+#[test]
+fn sessions_alone_find_what_shows_from_fresh() {
+    let plan = Plan {
+        sessions: true,
+        ..Plan::of_cases(4, SESSIONS)
+    };
+    let missed = FAULTS.iter().filter(|f| find_fault(f, plan).is_none());
+    let missed: Vec<u32> = missed.map(|f| f.number).collect();
+    assert_eq!(missed, NOT_FROM_FRESH);
+}
+
+#[test]
+fn without_a_fault_nothing_differs_and_all_is_reached() {
+    let pair = Pair {
+        first: &Plain,
+        second: &Planted::none(),
+    };
+    assert!(search_fixed(pair).difference.is_none());
+    let outcome = search(pair, Plan::of_cases(3, CASES), &mut |_, _| {});
+    if let Some(difference) = outcome.difference {
+        panic!("{}", text(&difference.case));
+    }
+    let missing = outcome.seen.missing();
+    assert!(missing.is_empty(), "{missing:?}");
+}
+
+#[test]
+fn differences_are_made_small() {
+    let of = |text: &str| FAULTS.iter().find(|f| f.text.contains(text)).unwrap();
+    let planted = Planted::fault(of("gives back only calling"));
+    let pair = Pair {
+        first: &Plain,
+        second: &planted,
+    };
+    let site = {
+        let mut site = engine::Site::ZERO;
+        site.n = 3;
+        let rng = &mut gen::Rng::new(5);
+        site.entries[..3].fill_with(|| gen::entry(rng, true));
+        site.entries[1].mask = 1;
+        site
+    };
+    let mut events = vec![[0; 4]; 40];
+    events.extend([[1, 1, 0, 0], [3, 0, 0, 1], [7, 1, 0, 0], [9, 2, 0, 0]]);
+    events.extend([[0; 4]; 300]);
+    let case = compare::case::Case::Session { site, events };
+    let mut unseen = gen::Coverage::new();
+    let small = compare::shrink::shrink(case, &mut |c| pair.check(c, &mut unseen).is_err());
+    let compare::case::Case::Session { site, events } = small else {
+        panic!("another case");
+    };
+    assert_eq!((site.n, events.len()), (1, 272));
+}

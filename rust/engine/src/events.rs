@@ -1,0 +1,171 @@
+//! Events: four bytes of code, crossing, place, value.
+
+use crate::types::{number, Crossing, Entry, Plant};
+
+const RELEASE: u16 = 270;
+const FULL: u16 = 255;
+
+/// The event codes.
+pub mod code {
+    pub const TICK: u8 = 0;
+    pub const STRIKE_IN: u8 = 1;
+    pub const PASSAGE: u8 = 2;
+    pub const KIOSK_HOLD: u8 = 3;
+    pub const OPERATOR_HOLD: u8 = 4;
+    pub const ROUTE: u8 = 5;
+    pub const APPROACH: u8 = 6;
+    pub const TIME_RELEASE: u8 = 7;
+    pub const BOOM_REPORT: u8 = 8;
+    pub const LAMP_REPORT: u8 = 9;
+}
+
+/// Takes or refuses one event; gives the number and the trains written off.
+pub fn event(plant: &mut Plant, event: [u8; 4]) -> (u8, u32) {
+    if !plant.in_range() {
+        return (number::SPOILT_PLANT, 0);
+    }
+    match apply(plant, event) {
+        Ok(written_off) => (number::TAKEN, written_off),
+        Err(refusal) => (refusal, 0),
+    }
+}
+
+/// One event on a plant known to be in range.
+#[inline]
+pub(crate) fn apply(plant: &mut Plant, event: [u8; 4]) -> Result<u32, u8> {
+    let [code, crossing, place, value] = event;
+    if code == code::TICK {
+        return match (crossing, place, value) {
+            (0, 0, 0) => Ok(tick(plant)),
+            (0, 0, _) => Err(number::UNKNOWN_VALUE),
+            (0, _, _) => Err(number::UNKNOWN_PLACE),
+            _ => Err(number::UNKNOWN_CROSSING),
+        };
+    }
+    if code > code::LAMP_REPORT {
+        return Err(number::UNKNOWN_CODE);
+    }
+    if crossing >= plant.site.n {
+        return Err(number::UNKNOWN_CROSSING);
+    }
+    let entry = &plant.site.entries[usize::from(crossing)];
+    let record = &mut plant.crossings[usize::from(crossing)];
+    record.take(entry, code, place, value)?;
+    record.settle(entry);
+    record.count_out(false);
+    Ok(0)
+}
+
+fn tick(plant: &mut Plant) -> u32 {
+    plant.beat = (plant.beat + 1) % 4;
+    let n = usize::from(plant.site.n);
+    let mut written_off = 0;
+    for (record, entry) in plant.crossings[..n].iter_mut().zip(&plant.site.entries) {
+        written_off += record.count_down();
+        record.run_timer(entry);
+        record.settle(entry);
+        record.count_out(true);
+    }
+    written_off
+}
+
+/// How many places and values an event of `code` knows; a field marked - knows only 0.
+#[inline]
+fn limits(entry: &Entry, code: u8) -> (u8, u8) {
+    match code {
+        code::STRIKE_IN | code::PASSAGE => (entry.tracks, 1),
+        code::KIOSK_HOLD | code::OPERATOR_HOLD => (1, 2),
+        code::ROUTE | code::APPROACH => (entry.tracks, 2),
+        code::BOOM_REPORT => (entry.booms(), 3),
+        code::LAMP_REPORT => (5, 2),
+        _ => (1, 1),
+    }
+}
+
+impl Crossing {
+    /// Everything an event other than a tick does before the crossing settles.
+    #[inline]
+    fn take(&mut self, entry: &Entry, code: u8, place: u8, value: u8) -> Result<(), u8> {
+        let (places, values) = limits(entry, code);
+        if place >= places {
+            return Err(number::UNKNOWN_PLACE);
+        }
+        if value >= values {
+            return Err(number::UNKNOWN_VALUE);
+        }
+        let on = value == 1;
+        let place = usize::from(place);
+        match code {
+            code::STRIKE_IN => self.strike_in(entry, place)?,
+            code::PASSAGE => self.passage(place)?,
+            code::KIOSK_HOLD => self.kiosk = on,
+            code::OPERATOR_HOLD => self.operator_hold(on)?,
+            code::ROUTE => self.set_route(entry, place, on)?,
+            code::APPROACH => self.occupied[place] = on,
+            code::TIME_RELEASE => self.time_release()?,
+            code::BOOM_REPORT => self.booms[place] = value,
+            _ => self.lamps[place] = on,
+        }
+        let cancels = match code {
+            code::STRIKE_IN => true,
+            code::KIOSK_HOLD | code::OPERATOR_HOLD | code::ROUTE | code::APPROACH => on,
+            _ => false,
+        };
+        if cancels {
+            self.countdown = 0;
+        }
+        Ok(())
+    }
+
+    fn strike_in(&mut self, entry: &Entry, track: usize) -> Result<(), u8> {
+        if u16::from(self.calling[track]) + u16::from(self.waiting[track]) >= FULL {
+            return Err(number::FULL_TRACK);
+        }
+        if !entry.depends(track) || self.route[track] {
+            self.calling[track] += 1;
+        } else {
+            self.waiting[track] += 1;
+        }
+        Ok(())
+    }
+
+    fn passage(&mut self, track: usize) -> Result<(), u8> {
+        if self.calling[track] > 0 {
+            self.calling[track] -= 1;
+        } else if self.waiting[track] > 0 {
+            self.waiting[track] -= 1;
+        } else {
+            return Err(number::GHOST_PASSAGE);
+        }
+        Ok(())
+    }
+
+    fn operator_hold(&mut self, on: bool) -> Result<(), u8> {
+        if !on && self.calling != [0; 4] {
+            return Err(number::TRAIN_CALLING);
+        }
+        self.operator = on;
+        Ok(())
+    }
+
+    fn set_route(&mut self, entry: &Entry, track: usize, on: bool) -> Result<(), u8> {
+        if !entry.depends(track) {
+            return Err(number::PLAIN_TRACK);
+        }
+        self.route[track] = on;
+        if on {
+            self.calling[track] += self.waiting[track];
+            self.waiting[track] = 0;
+        }
+        Ok(())
+    }
+
+    fn time_release(&mut self) -> Result<(), u8> {
+        let hold = self.kiosk || self.operator;
+        if hold || self.route != [false; 4] || self.occupied != [false; 4] {
+            return Err(number::NOT_CLEAR);
+        }
+        self.countdown = RELEASE;
+        Ok(())
+    }
+}

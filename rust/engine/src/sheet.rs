@@ -1,0 +1,67 @@
+//! The event sheet: its size m, m codes, then m triples of crossing, place, value.
+
+use crate::events::apply;
+use crate::panel::{paint, panel_len};
+use crate::types::{number, Plant, MAX_EVENTS};
+
+/// The answer of a run.
+#[repr(C)]
+#[derive(Clone, Copy, PartialEq, Debug)]
+pub struct Run {
+    pub number: u8,
+    pub taken: u32,
+    pub refused: u32,
+    pub written_off: u32,
+}
+
+impl Run {
+    fn answer(number: u8) -> Run {
+        Run {
+            number,
+            taken: 0,
+            refused: 0,
+            written_off: 0,
+        }
+    }
+}
+
+/// The codes and the triples of a sheet.
+pub fn sheet_parts(sheet: &[u8]) -> Result<(&[u8], &[u8]), u8> {
+    let &[low, high, ref rest @ ..] = sheet else {
+        return Err(number::TORN_SHEET);
+    };
+    let m = usize::from(u16::from_le_bytes([low, high]));
+    if m > MAX_EVENTS {
+        return Err(number::OVER_LONG);
+    }
+    if rest.len() != 4 * m {
+        return Err(number::TORN_SHEET);
+    }
+    Ok(rest.split_at(m))
+}
+
+/// Applies each event of a sheet in turn and draws the panel.
+pub fn run(plant: &mut Plant, sheet: &[u8], panel: &mut [u8]) -> Run {
+    if !plant.in_range() {
+        return Run::answer(number::SPOILT_PLANT);
+    }
+    let (codes, triples) = match sheet_parts(sheet) {
+        Ok(parts) => parts,
+        Err(refusal) => return Run::answer(refusal),
+    };
+    if panel.len() != panel_len(plant.site.n) {
+        return Run::answer(number::WRONG_FRAME);
+    }
+    let mut run = Run::answer(number::TAKEN);
+    for (code, triple) in codes.iter().zip(triples.chunks_exact(3)) {
+        match apply(plant, [*code, triple[0], triple[1], triple[2]]) {
+            Ok(written_off) => {
+                run.taken += 1;
+                run.written_off += written_off;
+            }
+            Err(_) => run.refused += 1,
+        }
+    }
+    paint(plant, panel);
+    run
+}

@@ -1,0 +1,175 @@
+//! The settings and what the plant holds.
+
+/// Most events in a sheet.
+pub const MAX_EVENTS: usize = 4096;
+
+/// The numbers a call answers with.
+pub mod number {
+    pub const TAKEN: u8 = 0;
+    pub const TORN_BOOK: u8 = 1;
+    pub const OVER_LONG: u8 = 2;
+    pub const WRONG_SETTING: u8 = 3;
+    pub const TORN_SHEET: u8 = 4;
+    pub const UNKNOWN_CODE: u8 = 5;
+    pub const UNKNOWN_CROSSING: u8 = 6;
+    pub const UNKNOWN_PLACE: u8 = 7;
+    pub const UNKNOWN_VALUE: u8 = 8;
+    pub const FULL_TRACK: u8 = 9;
+    pub const GHOST_PASSAGE: u8 = 10;
+    pub const TRAIN_CALLING: u8 = 11;
+    pub const NOT_CLEAR: u8 = 12;
+    pub const PLAIN_TRACK: u8 = 13;
+    pub const WRONG_FRAME: u8 = 14;
+    pub const SPOILT_PLANT: u8 = 15;
+}
+
+/// The phases of a crossing.
+pub mod phase {
+    /// Road open.
+    pub const OPEN: u8 = 0;
+    /// Pre-ringing, timer 1 to F.
+    pub const WARNING: u8 = 1;
+    /// Right booms ordered down, kind 4 only, timer 1 to G.
+    pub const RIGHT_DOWN: u8 = 2;
+    /// All booms ordered down.
+    pub const ALL_DOWN: u8 = 3;
+    /// Booms rising, kinds 2 to 4.
+    pub const RAISING: u8 = 4;
+}
+
+/// The reports of a boom.
+pub mod boom {
+    pub const UP: u8 = 0;
+    pub const MOVING: u8 = 1;
+    pub const DOWN: u8 = 2;
+}
+
+/// Settings of one crossing.
+#[repr(C)]
+#[derive(Clone, Copy, PartialEq, Debug)]
+pub struct Entry {
+    /// 1 lights only, 2 half booms, 3 two full booms, 4 four full booms.
+    pub kind: u8,
+    /// 1 to 4.
+    pub tracks: u8,
+    /// Bit t is set where track t depends on a route.
+    pub mask: u8,
+    /// F, pre-ringing in ticks.
+    pub pre: u16,
+    /// G, right booms to left in ticks; kind 4 only.
+    pub gap: u16,
+}
+
+impl Entry {
+    pub const ZERO: Entry = Entry {
+        kind: 0,
+        tracks: 0,
+        mask: 0,
+        pre: 0,
+        gap: 0,
+    };
+
+    /// How many booms this kind has.
+    #[inline]
+    pub fn booms(&self) -> u8 {
+        match self.kind {
+            2 | 3 => 2,
+            4 => 4,
+            _ => 0,
+        }
+    }
+
+    /// Whether `track` depends on a route.
+    #[inline]
+    pub fn depends(&self, track: usize) -> bool {
+        self.mask >> track & 1 == 1
+    }
+}
+
+/// Settings of the whole plant: `n` crossings, the entries past `n` all zero.
+#[repr(C)]
+#[derive(Clone, Copy, PartialEq, Debug)]
+pub struct Site {
+    pub n: u8,
+    pub entries: [Entry; 8],
+}
+
+impl Site {
+    pub const ZERO: Site = Site {
+        n: 0,
+        entries: [Entry::ZERO; 8],
+    };
+}
+
+/// What the plant holds for one crossing.
+#[repr(C)]
+#[derive(Clone, Copy, PartialEq, Debug)]
+pub struct Crossing {
+    /// Trains that call for closing, per track.
+    pub calling: [u8; 4],
+    /// Trains that wait for a route, per dependent track.
+    pub waiting: [u8; 4],
+    /// Route set, per dependent track.
+    pub route: [bool; 4],
+    /// Approach occupied, per track.
+    pub occupied: [bool; 4],
+    /// Last boom reports: 0 and 1 right of the road, 2 and 3 left.
+    pub booms: [u8; 4],
+    /// Last lamp reports: road white, road red, train red, train white, flasher.
+    pub lamps: [bool; 5],
+    pub kiosk: bool,
+    pub operator: bool,
+    /// Ticks left of a time release, 0 to 270.
+    pub countdown: u16,
+    pub phase: u8,
+    pub timer: u16,
+    /// Ticks out of normal position, 0 to 901.
+    pub out: u16,
+}
+
+impl Crossing {
+    pub const ZERO: Crossing = Crossing {
+        calling: [0; 4],
+        waiting: [0; 4],
+        route: [false; 4],
+        occupied: [false; 4],
+        booms: [boom::UP; 4],
+        lamps: [false; 5],
+        kiosk: false,
+        operator: false,
+        countdown: 0,
+        phase: phase::OPEN,
+        timer: 0,
+        out: 0,
+    };
+
+    /// A crossing of a fresh plant: nothing on, all lamps whole.
+    pub const FRESH: Crossing = Crossing {
+        lamps: [true; 5],
+        ..Crossing::ZERO
+    };
+}
+
+/// The settings, the beat and the crossing records; records past `n` are all zero.
+#[repr(C)]
+#[derive(Clone, Copy, PartialEq, Debug)]
+pub struct Plant {
+    pub site: Site,
+    pub beat: u8,
+    pub crossings: [Crossing; 8],
+}
+
+impl Plant {
+    /// The fresh plant of a site.
+    pub fn fresh(site: &Site) -> Plant {
+        let mut crossings = [Crossing::ZERO; 8];
+        for crossing in crossings.iter_mut().take(site.n.into()) {
+            *crossing = Crossing::FRESH;
+        }
+        Plant {
+            site: *site,
+            beat: 0,
+            crossings,
+        }
+    }
+}

@@ -1,0 +1,86 @@
+//! Helpers shared by the tests.
+#![allow(dead_code)]
+
+use engine::{book_len, draw, event, panel_len, Entry, Plant, Site, PANEL};
+
+pub const TICK: [u8; 4] = [0, 0, 0, 0];
+
+pub fn entry(kind: u8, tracks: u8, mask: u8, pre: u16, gap: u16) -> Entry {
+    Entry {
+        kind,
+        tracks,
+        mask,
+        pre,
+        gap,
+    }
+}
+
+pub fn site(list: &[Entry]) -> Site {
+    let mut site = Site::ZERO;
+    site.n = list.len() as u8;
+    site.entries[..list.len()].copy_from_slice(list);
+    site
+}
+
+/// The fresh plant of these settings.
+pub fn fresh(list: &[Entry]) -> Plant {
+    Plant::fresh(&site(list))
+}
+
+/// One crossing of each kind, tracks 0 and 1, track 1 dependent, F 2, G 3.
+pub fn four_kinds() -> Plant {
+    let gap = |kind| if kind == 4 { 3 } else { 0 };
+    let list: Vec<Entry> = (1..=4).map(|k| entry(k, 2, 0b10, 2, gap(k))).collect();
+    fresh(&list)
+}
+
+pub fn book(site: &Site) -> Vec<u8> {
+    let mut out = vec![0; book_len(site.n)];
+    assert_eq!(engine::write_book(site, &mut out), 0);
+    out
+}
+
+/// Takes every event; gives the trains written off.
+pub fn take(plant: &mut Plant, events: &[[u8; 4]]) -> u32 {
+    let mut written_off = 0;
+    for e in events {
+        let (number, off) = event(plant, *e);
+        assert_eq!(number, 0, "event {e:?}");
+        written_off += off;
+    }
+    written_off
+}
+
+/// The event is refused with this number and changes nothing.
+pub fn refuse(plant: &Plant, e: [u8; 4], number: u8) {
+    let mut after = *plant;
+    assert_eq!(event(&mut after, e), (number, 0), "event {e:?}");
+    assert_eq!(after, *plant, "event {e:?}");
+}
+
+pub fn ticks(plant: &mut Plant, count: usize) -> u32 {
+    take(plant, &vec![TICK; count])
+}
+
+/// The panel bytes of one crossing.
+pub fn panel(plant: &Plant, crossing: usize) -> [u8; PANEL] {
+    let mut bytes = vec![0xaa; panel_len(plant.site.n)];
+    assert_eq!(draw(plant, &mut bytes), 0);
+    bytes[PANEL * crossing..][..PANEL].try_into().unwrap()
+}
+
+/// The sheet of these events.
+pub fn sheet(events: &[[u8; 4]]) -> Vec<u8> {
+    let mut bytes = (events.len() as u16).to_le_bytes().to_vec();
+    bytes.extend(events.iter().map(|e| e[0]));
+    bytes.extend(events.iter().flat_map(|e| [e[1], e[2], e[3]]));
+    bytes
+}
+
+/// The program's case: kind 3, one plain track, F 2, a train, both booms down.
+pub fn program_case() -> Plant {
+    let mut plant = fresh(&[entry(3, 1, 0, 2, 0)]);
+    let events = [[1, 0, 0, 0], TICK, TICK, [8, 0, 0, 2], [8, 0, 1, 2]];
+    take(&mut plant, &events);
+    plant
+}

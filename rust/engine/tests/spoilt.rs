@@ -1,0 +1,161 @@
+//! Number 15: each held number at its bounds.
+
+mod common;
+
+use common::{entry, four_kinds, fresh};
+use engine::{Crossing, Entry, Plant};
+
+fn spoilt(plant: &Plant, change: impl FnOnce(&mut Plant)) {
+    let mut changed = *plant;
+    change(&mut changed);
+    common::refuse(&changed, [9, 0, 0, 1], 15);
+}
+
+fn sound(plant: &Plant, change: impl FnOnce(&mut Plant)) {
+    let mut changed = *plant;
+    change(&mut changed);
+    assert!(changed.in_range());
+    assert_eq!(engine::event(&mut changed, [9, 0, 0, 1]).0, 0);
+}
+
+#[test]
+fn settings_and_beat() {
+    let plant = four_kinds();
+    for n in [0, 9, 255] {
+        spoilt(&plant, |p| p.site.n = n);
+    }
+    spoilt(&plant, |p| p.site.entries[0].kind = 0);
+    spoilt(&plant, |p| p.site.entries[0].kind = 5);
+    spoilt(&plant, |p| p.site.entries[1].tracks = 0);
+    spoilt(&plant, |p| p.site.entries[1].tracks = 5);
+    spoilt(&plant, |p| p.site.entries[1].tracks = 255);
+    spoilt(&plant, |p| p.site.entries[2].mask = 0b100);
+    spoilt(&plant, |p| p.site.entries[2].pre = 0);
+    spoilt(&plant, |p| p.site.entries[2].pre = 181);
+    spoilt(&plant, |p| p.site.entries[2].gap = 1);
+    spoilt(&plant, |p| p.site.entries[3].gap = 0);
+    spoilt(&plant, |p| p.site.entries[3].gap = 91);
+    spoilt(&plant, |p| p.site.entries[7] = entry(1, 1, 0, 1, 0));
+    spoilt(&plant, |p| p.beat = 4);
+    for beat in 0..4 {
+        sound(&plant, |p| p.beat = beat);
+    }
+}
+
+#[test]
+fn tracks() {
+    let plant = four_kinds();
+    sound(&plant, |p| p.crossings[0].calling[0] = 255);
+    sound(&plant, |p| p.crossings[0].waiting[1] = 255);
+    spoilt(&plant, |p| p.crossings[0].waiting[0] = 1);
+    spoilt(&plant, |p| p.crossings[0].route[0] = true);
+    sound(&plant, |p| p.crossings[0].route[1] = true);
+    sound(&plant, |p| {
+        p.crossings[0].occupied = [true, true, false, false]
+    });
+    spoilt(&plant, |p| {
+        p.crossings[3].calling[1] = 128;
+        p.crossings[3].waiting[1] = 128;
+    });
+    for track in 2..4 {
+        spoilt(&plant, |p| p.crossings[1].calling[track] = 1);
+        spoilt(&plant, |p| p.crossings[1].waiting[track] = 1);
+        spoilt(&plant, |p| p.crossings[1].route[track] = true);
+        spoilt(&plant, |p| p.crossings[1].occupied[track] = true);
+    }
+}
+
+#[test]
+fn booms() {
+    let plant = four_kinds();
+    for (crossing, count) in [0, 2, 2, 4].into_iter().enumerate() {
+        for boom in 0..4 {
+            let value = if boom < count { 3 } else { 1 };
+            spoilt(&plant, |p| p.crossings[crossing].booms[boom] = value);
+            if boom < count {
+                sound(&plant, |p| p.crossings[crossing].booms[boom] = 2);
+            }
+        }
+    }
+}
+
+#[test]
+fn phases_and_timers() {
+    let plant = four_kinds();
+    let timers = |kind: u8, phase: u8| match (kind, phase) {
+        (_, 0 | 3) => Some(0..=0),
+        (_, 1) => Some(1..=2),
+        (4, 2) => Some(1..=3),
+        (2..=4, 4) => Some(0..=0),
+        _ => None,
+    };
+    for kind in 1..=4u8 {
+        for phase in 0..=255 {
+            for timer in [0, 1, 2, 3, 4, 180, 65535] {
+                let known = timers(kind, phase).is_some_and(|t| t.contains(&timer));
+                let mut changed = plant;
+                changed.crossings[usize::from(kind) - 1].phase = phase;
+                changed.crossings[usize::from(kind) - 1].timer = timer;
+                assert_eq!(changed.in_range(), known, "{kind} {phase} {timer}");
+            }
+        }
+    }
+}
+
+#[test]
+fn counters() {
+    let plant = four_kinds();
+    sound(&plant, |p| p.crossings[2].countdown = 270);
+    spoilt(&plant, |p| p.crossings[2].countdown = 271);
+    sound(&plant, |p| p.crossings[2].out = 901);
+    spoilt(&plant, |p| p.crossings[2].out = 902);
+}
+
+#[test]
+fn past_n() {
+    let plant = four_kinds();
+    let changes: [fn(&mut Crossing); 12] = [
+        |c| c.calling[0] = 1,
+        |c| c.waiting[0] = 1,
+        |c| c.route[0] = true,
+        |c| c.occupied[3] = true,
+        |c| c.booms[0] = 1,
+        |c| c.lamps[4] = true,
+        |c| c.kiosk = true,
+        |c| c.operator = true,
+        |c| c.countdown = 1,
+        |c| c.phase = 3,
+        |c| c.timer = 1,
+        |c| c.out = 1,
+    ];
+    for change in changes {
+        for i in 4..8 {
+            spoilt(&plant, |p| change(&mut p.crossings[i]));
+        }
+    }
+    let entries: [fn(&mut Entry); 5] = [
+        |e| e.kind = 1,
+        |e| e.tracks = 1,
+        |e| e.mask = 1,
+        |e| e.pre = 1,
+        |e| e.gap = 1,
+    ];
+    for change in entries {
+        for i in 4..8 {
+            spoilt(&plant, |p| change(&mut p.site.entries[i]));
+        }
+    }
+}
+
+#[test]
+fn relations_between_fields_are_free() {
+    let plant = fresh(&[entry(3, 1, 1, 2, 0)]);
+    sound(&plant, |p| {
+        let c = &mut p.crossings[0];
+        c.route[0] = true;
+        c.waiting[0] = 3;
+        c.kiosk = true;
+        c.countdown = 9;
+        c.out = 5;
+    });
+}

@@ -1,0 +1,173 @@
+//! Settings, site books, damaged books, and frames to be lent.
+
+use crate::rng::Rng;
+use engine::{book_len, Entry, Site};
+
+/// Settings of one crossing; `quick` keeps F and G short.
+pub fn entry(rng: &mut Rng, quick: bool) -> Entry {
+    let kind = rng.within(1..=4) as u8;
+    let tracks = rng.within(1..=4) as u8;
+    let (max_pre, max_gap) = if quick { (6, 4) } else { (180, 90) };
+    let bound = |rng: &mut Rng, max: u32| match rng.below(6) {
+        0 => 1,
+        1 => max as u16,
+        _ => rng.within(1..=max) as u16,
+    };
+    let pre = bound(rng, max_pre);
+    let gap = bound(rng, max_gap);
+    Entry {
+        kind,
+        tracks,
+        mask: rng.byte() & ((1 << tracks) - 1),
+        pre,
+        gap: if kind == 4 { gap } else { 0 },
+    }
+}
+
+fn site_with(rng: &mut Rng, quick: bool) -> Site {
+    let mut site = Site {
+        n: rng.within(1..=8) as u8,
+        ..Site::ZERO
+    };
+    for i in 0..usize::from(site.n) {
+        site.entries[i] = entry(rng, quick);
+    }
+    site
+}
+
+/// Settings in range, all sizes.
+pub fn site(rng: &mut Rng) -> Site {
+    let quick = rng.flag();
+    site_with(rng, quick)
+}
+
+/// Settings in range with short warnings.
+pub fn quick_site(rng: &mut Rng) -> Site {
+    site_with(rng, true)
+}
+
+/// The book of any settings, in range or not, with `n` at most 8.
+pub fn book_bytes(site: &Site) -> Vec<u8> {
+    let entries = &site.entries[..usize::from(site.n)];
+    let mut bytes = vec![site.n];
+    bytes.extend(entries.iter().flat_map(|e| [e.kind, e.tracks, e.mask]));
+    for e in entries {
+        bytes.extend(e.pre.to_le_bytes());
+        bytes.extend(e.gap.to_le_bytes());
+    }
+    bytes
+}
+
+/// A good book.
+pub fn book(rng: &mut Rng) -> Vec<u8> {
+    book_bytes(&site(rng))
+}
+
+/// Books of every count 0 to 9 and 255 in every length 0 to 70, good where they can be.
+pub fn all_lengths() -> Vec<Vec<u8>> {
+    let rng = &mut Rng::new(70);
+    let mut books = Vec::new();
+    for count in (0..=9).chain([255]) {
+        let mut site = Site::ZERO;
+        site.n = u8::min(count, 8);
+        site.entries[..site.n.into()].fill_with(|| entry(rng, false));
+        for len in 0..=70 {
+            let mut bytes = book_bytes(&site);
+            bytes[0] = count;
+            bytes.resize(len, 0);
+            books.push(bytes);
+        }
+    }
+    books
+}
+
+/// The ways a book is damaged.
+#[derive(Clone, Copy, PartialEq, Debug)]
+pub enum BookDamage {
+    Empty,
+    Count,
+    Short,
+    Long,
+    Kind,
+    Tracks,
+    Mask,
+    Pre,
+    Gap,
+    GapWithoutBooms,
+    OneByte,
+    Junk,
+}
+
+impl BookDamage {
+    pub const ALL: [BookDamage; 12] = [
+        BookDamage::Empty,
+        BookDamage::Count,
+        BookDamage::Short,
+        BookDamage::Long,
+        BookDamage::Kind,
+        BookDamage::Tracks,
+        BookDamage::Mask,
+        BookDamage::Pre,
+        BookDamage::Gap,
+        BookDamage::GapWithoutBooms,
+        BookDamage::OneByte,
+        BookDamage::Junk,
+    ];
+}
+
+/// A book with this damage; lengths 0 to 70.
+pub fn damaged_book(rng: &mut Rng, damage: BookDamage) -> Vec<u8> {
+    let mut site = site(rng);
+    let i = rng.below(site.n.into()) as usize;
+    damage_entry(rng, &mut site.entries[i], damage);
+    let mut bytes = book_bytes(&site);
+    let len = bytes.len() as u32;
+    match damage {
+        BookDamage::Empty => bytes.clear(),
+        BookDamage::Count => bytes[0] = rng.pick(&[0, 9, 10, 128, 255]),
+        BookDamage::Short => bytes.truncate(rng.below(len) as usize),
+        BookDamage::Long => bytes.resize(len as usize + rng.within(1..=13) as usize, 0),
+        BookDamage::OneByte => {
+            let at = rng.below(len) as usize;
+            bytes[at] = rng.byte();
+        }
+        BookDamage::Junk => {
+            let len = rng.within(0..=70);
+            bytes = (0..len).map(|_| rng.pick(&[0, 1, 2, 3, 4, 8])).collect();
+        }
+        _ => {}
+    }
+    bytes
+}
+
+fn damage_entry(rng: &mut Rng, entry: &mut Entry, damage: BookDamage) {
+    match damage {
+        BookDamage::Kind => entry.kind = rng.pick(&[0, 5, 6, 255]),
+        BookDamage::Tracks => entry.tracks = rng.pick(&[0, 5, 8, 255]),
+        BookDamage::Mask => entry.mask |= 1 << rng.within(entry.tracks.into()..=7),
+        BookDamage::Pre => entry.pre = rng.pick(&[0, 181, 256, 257, 65535]),
+        BookDamage::Gap => {
+            entry.kind = 4;
+            entry.gap = rng.pick(&[0, 91, 256, 257, 65535]);
+        }
+        BookDamage::GapWithoutBooms => {
+            entry.kind = rng.within(1..=3) as u8;
+            entry.gap = rng.pick(&[1, 90, 256, 65535]);
+        }
+        _ => {}
+    }
+}
+
+/// A frame of the right length, or once in four of a wrong one, filled with any bytes.
+pub fn frame(rng: &mut Rng, right: usize) -> Vec<u8> {
+    let len = match rng.below(24) {
+        0 => 0,
+        1 => right + 1,
+        2 => right.saturating_sub(1),
+        3 => rng.below(140) as usize,
+        4 => right + 16,
+        5 => book_len(rng.below(9) as u8),
+        _ => right,
+    };
+    (0..len).map(|_| rng.byte()).collect()
+}

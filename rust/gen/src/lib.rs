@@ -1,0 +1,23 @@
+//! Seeded inputs for a crossing engine, and counters of what they reach.
+//!
+//! Everything follows from the seed alone, so a case is the same on every machine.
+
+mod books;
+mod coverage;
+mod events;
+mod plants;
+mod rng;
+mod sheets;
+mod spoilt;
+mod traffic;
+
+pub use books::{
+    all_lengths, book, book_bytes, damaged_book, entry, frame, quick_site, site, BookDamage,
+};
+pub use coverage::{Call, Coverage};
+pub use events::{event, event_grid, junk_event};
+pub use plants::plant;
+pub use rng::Rng;
+pub use sheets::{damaged_sheet, sheet_bytes, sheet_events, SheetDamage};
+pub use spoilt::{spoilt_plant, Spoil};
+pub use traffic::{coherent, mixed};

@@ -1,0 +1,189 @@
+//! Plants with exactly one kind of spoilt number.
+
+use crate::books::entry;
+use crate::plants::{crossing, plant};
+use crate::rng::Rng;
+use engine::{phase, Crossing, Entry, Plant, Site};
+
+macro_rules! spoils {
+    ($($name:ident)*) => {
+        /// Which number is spoilt.
+        #[derive(Clone, Copy, PartialEq, Debug)]
+        pub enum Spoil { $($name,)* }
+
+        impl Spoil {
+            pub const ALL: &'static [Spoil] = &[$(Spoil::$name,)*];
+        }
+    };
+}
+
+spoils! {
+    CountZero CountOver Kind Tracks Mask Pre Gap GapWithoutBooms
+    EntryPastKind EntryPastTracks EntryPastMask EntryPastPre EntryPastGap
+    Beat TooManyTrains WaitingOnPlain RouteOnPlain
+    CallingOffTrack WaitingOffTrack RouteOffTrack OccupiedOffTrack
+    BoomReport LackingBoom Countdown Out
+    PhaseOver RightDownWithoutLeft RaisingLights
+    WarningTimerZero WarningTimerOver GapTimerZero GapTimerOver StillTimer
+    PastCalling PastWaiting PastRoute PastOccupied PastBooms PastLamps
+    PastKiosk PastOperator PastCountdown PastPhase PastTimer PastOut
+}
+
+/// A plant in range but for one number.
+pub fn spoilt_plant(rng: &mut Rng, spoil: Spoil) -> Plant {
+    let mut plant = plant(rng);
+    shorten(rng, &mut plant);
+    let i = rng.below(plant.site.n.into()) as usize;
+    let past = rng.within(plant.site.n.into()..=7) as usize;
+    let e = suited(rng, spoil);
+    plant.site.entries[i] = e;
+    plant.crossings[i] = match rng.flag() {
+        true => Crossing::FRESH,
+        false => crossing(rng, &e),
+    };
+    match spoil {
+        Spoil::CountZero if rng.flag() => plant = Plant::fresh(&Site::ZERO),
+        Spoil::CountZero => plant.site.n = 0,
+        Spoil::CountOver => plant.site.n = rng.pick(&[9, 10, 255]),
+        Spoil::Beat => plant.beat = rng.pick(&[4, 5, 255]),
+        _ => {
+            spoil_entry(rng, &mut plant.site.entries[i], spoil);
+            spoil_past_entry(rng, &mut plant.site.entries[past], spoil);
+            spoil_tracks(rng, &e, &mut plant.crossings[i], spoil);
+            spoil_phase(rng, &e, &mut plant.crossings[i], spoil);
+            spoil_past(rng, &mut plant.crossings[past], spoil);
+        }
+    }
+    plant
+}
+
+/// Leaves at least one record past n.
+fn shorten(rng: &mut Rng, plant: &mut Plant) {
+    if plant.site.n == 8 {
+        plant.site.n = rng.within(1..=7) as u8;
+        for i in usize::from(plant.site.n)..8 {
+            plant.site.entries[i] = Entry::ZERO;
+            plant.crossings[i] = Crossing::ZERO;
+        }
+    }
+}
+
+/// Settings under which this number can be spoilt alone.
+fn suited(rng: &mut Rng, spoil: Spoil) -> Entry {
+    let mut e = entry(rng, false);
+    let kind = match spoil {
+        Spoil::Gap | Spoil::GapTimerZero | Spoil::GapTimerOver => 4,
+        Spoil::GapWithoutBooms | Spoil::RightDownWithoutLeft => rng.within(1..=3) as u8,
+        Spoil::LackingBoom => rng.within(1..=3) as u8,
+        Spoil::BoomReport => rng.within(2..=4) as u8,
+        Spoil::RaisingLights => 1,
+        _ => e.kind,
+    };
+    e.kind = kind;
+    e.gap = if kind == 4 {
+        rng.within(1..=90) as u16
+    } else {
+        0
+    };
+    match spoil {
+        Spoil::CallingOffTrack | Spoil::WaitingOffTrack => e.tracks = e.tracks.min(3),
+        Spoil::RouteOffTrack | Spoil::OccupiedOffTrack => e.tracks = e.tracks.min(3),
+        Spoil::TooManyTrains => e.mask |= 1,
+        _ => {}
+    }
+    e.mask &= match spoil {
+        Spoil::WaitingOnPlain | Spoil::RouteOnPlain => (1 << (e.tracks - 1)) - 1,
+        _ => (1 << e.tracks) - 1,
+    };
+    e
+}
+
+fn spoil_entry(rng: &mut Rng, e: &mut Entry, spoil: Spoil) {
+    match spoil {
+        Spoil::Kind => e.kind = rng.pick(&[0, 5, 255]),
+        Spoil::Tracks => e.tracks = rng.pick(&[0, 5, 255]),
+        Spoil::Mask => e.mask |= 1 << rng.within(e.tracks.into()..=7),
+        Spoil::Pre => e.pre = rng.pick(&[0, 181, 65535]),
+        Spoil::Gap => e.gap = rng.pick(&[0, 91, 65535]),
+        Spoil::GapWithoutBooms => e.gap = rng.pick(&[1, 90, 65535]),
+        _ => {}
+    }
+}
+
+fn spoil_past_entry(rng: &mut Rng, e: &mut Entry, spoil: Spoil) {
+    match spoil {
+        Spoil::EntryPastKind => e.kind = rng.pick(&[1, 4, 255]),
+        Spoil::EntryPastTracks => e.tracks = rng.pick(&[1, 4, 255]),
+        Spoil::EntryPastMask => e.mask = rng.pick(&[1, 8, 128]),
+        Spoil::EntryPastPre => e.pre = rng.pick(&[1, 180, 256]),
+        Spoil::EntryPastGap => e.gap = rng.pick(&[1, 90, 256]),
+        _ => {}
+    }
+}
+
+fn spoil_tracks(rng: &mut Rng, e: &Entry, c: &mut Crossing, spoil: Spoil) {
+    let last = usize::from(e.tracks) - 1;
+    let off = rng.within(u32::from(e.tracks).min(3)..=3) as usize;
+    let lacking = rng.within(u32::from(e.booms()).min(3)..=3) as usize;
+    match spoil {
+        Spoil::TooManyTrains => {
+            c.calling[0] = rng.within(1..=255) as u8;
+            c.waiting[0] = rng.within(256 - u32::from(c.calling[0])..=255) as u8;
+        }
+        Spoil::WaitingOnPlain => {
+            c.waiting[last] = 1;
+            c.calling[last] = c.calling[last].min(254);
+        }
+        Spoil::RouteOnPlain => c.route[last] = true,
+        Spoil::CallingOffTrack => c.calling[off] = rng.pick(&[1, 255]),
+        Spoil::WaitingOffTrack => c.waiting[off] = rng.pick(&[1, 255]),
+        Spoil::RouteOffTrack => c.route[off] = true,
+        Spoil::OccupiedOffTrack => c.occupied[off] = true,
+        Spoil::BoomReport => {
+            let b = rng.below(e.booms().into()) as usize;
+            c.booms[b] = rng.pick(&[3, 4, 255]);
+        }
+        Spoil::LackingBoom => c.booms[lacking] = rng.pick(&[1, 2, 255]),
+        Spoil::Countdown => c.countdown = rng.pick(&[271, 526, 65535]),
+        Spoil::Out => c.out = rng.pick(&[902, 1024, 65535]),
+        _ => {}
+    }
+}
+
+fn spoil_phase(rng: &mut Rng, e: &Entry, c: &mut Crossing, spoil: Spoil) {
+    let over = |rng: &mut Rng, max: u16| rng.pick(&[max + 1, max + 256, 65535]);
+    let (phase, timer) = match spoil {
+        Spoil::PhaseOver => (rng.pick(&[5, 6, 255]), 0),
+        Spoil::RightDownWithoutLeft => (phase::RIGHT_DOWN, rng.pick(&[0, 1])),
+        Spoil::RaisingLights => (phase::RAISING, 0),
+        Spoil::WarningTimerZero => (phase::WARNING, 0),
+        Spoil::WarningTimerOver => (phase::WARNING, over(rng, e.pre)),
+        Spoil::GapTimerZero => (phase::RIGHT_DOWN, 0),
+        Spoil::GapTimerOver => (phase::RIGHT_DOWN, over(rng, e.gap)),
+        Spoil::StillTimer if e.kind == 1 => (rng.pick(&[0, 3]), 1),
+        Spoil::StillTimer => (rng.pick(&[0, 3, 4]), rng.pick(&[1, 65535])),
+        _ => return,
+    };
+    c.phase = phase;
+    c.timer = timer;
+}
+
+fn spoil_past(rng: &mut Rng, c: &mut Crossing, spoil: Spoil) {
+    let i = rng.below(4) as usize;
+    match spoil {
+        Spoil::PastCalling => c.calling[i] = 1,
+        Spoil::PastWaiting => c.waiting[i] = 1,
+        Spoil::PastRoute => c.route[i] = true,
+        Spoil::PastOccupied => c.occupied[i] = true,
+        Spoil::PastBooms => c.booms[i] = rng.pick(&[1, 2, 255]),
+        Spoil::PastLamps if rng.flag() => c.lamps = [true; 5],
+        Spoil::PastLamps => c.lamps[rng.below(5) as usize] = true,
+        Spoil::PastKiosk => c.kiosk = true,
+        Spoil::PastOperator => c.operator = true,
+        Spoil::PastCountdown => c.countdown = rng.pick(&[1, 256, 270]),
+        Spoil::PastPhase => c.phase = rng.pick(&[1, 3, 255]),
+        Spoil::PastTimer => c.timer = rng.pick(&[1, 256]),
+        Spoil::PastOut => c.out = rng.pick(&[1, 256, 901]),
+        _ => {}
+    }
+}

@@ -1,0 +1,273 @@
+//! Lists of events: coherent traffic, in which booms follow their orders, time
+//! releases run to their end and tracks fill up, mixed with junk.
+
+use crate::events::{event, junk_event};
+use crate::rng::Rng;
+use engine::{boom, code, phase, Plant};
+
+const TICK: [u8; 4] = [code::TICK, 0, 0, 0];
+
+/// Coherent traffic from `plant`, `len` events.
+pub fn coherent(rng: &mut Rng, plant: &Plant, len: usize) -> Vec<[u8; 4]> {
+    let mut list = List::new(rng, plant, len);
+    while list.has_room() {
+        list.burst();
+    }
+    list.events
+}
+
+/// Any events of the table with junk between, `len` events.
+pub fn mixed(rng: &mut Rng, plant: &Plant, len: usize) -> Vec<[u8; 4]> {
+    (0..len)
+        .map(|_| match rng.below(8) {
+            0 => junk_event(rng, plant),
+            1..=3 => TICK,
+            _ => event(rng, plant),
+        })
+        .collect()
+}
+
+/// Events so far, and the plant after them.
+struct List<'a> {
+    rng: &'a mut Rng,
+    plant: Plant,
+    events: Vec<[u8; 4]>,
+    len: usize,
+}
+
+/// How often each kind of event comes in a stretch: tick, strike-in, passage, kiosk,
+/// operator, route, approach, release, boom that follows, any boom, lamp, junk.
+const LINE: [u32; 12] = [28, 5, 6, 0, 0, 0, 1, 0, 16, 0, 0, 0];
+const STATION: [u32; 12] = [20, 6, 6, 1, 1, 6, 2, 1, 14, 1, 1, 1];
+const OPERATORS: [u32; 12] = [10, 4, 6, 5, 7, 3, 2, 3, 10, 0, 1, 1];
+const FAULTS: [u32; 12] = [14, 4, 4, 1, 1, 2, 1, 1, 8, 5, 6, 6];
+
+impl<'a> List<'a> {
+    fn new(rng: &'a mut Rng, plant: &Plant, len: usize) -> List<'a> {
+        List {
+            rng,
+            plant: *plant,
+            events: Vec::with_capacity(len),
+            len,
+        }
+    }
+
+    fn has_room(&self) -> bool {
+        self.events.len() < self.len
+    }
+
+    fn push(&mut self, e: [u8; 4]) {
+        if self.has_room() {
+            engine::event(&mut self.plant, e);
+            self.events.push(e);
+        }
+    }
+
+    fn burst(&mut self) {
+        match self.rng.below(16) {
+            0 => self.release(),
+            1 => self.late_warning(),
+            2 => self.fill(),
+            3 => self.long_out(),
+            4..=6 => self.stretch(&LINE),
+            7..=10 => self.stretch(&STATION),
+            11..=13 => self.stretch(&OPERATORS),
+            _ => self.stretch(&FAULTS),
+        }
+    }
+
+    fn crossing(&mut self) -> u8 {
+        self.rng.below(self.plant.site.n.into()) as u8
+    }
+
+    fn track(&mut self, c: u8) -> u8 {
+        let tracks = self.plant.site.entries[usize::from(c)].tracks;
+        self.rng.below(tracks.into()) as u8
+    }
+
+    fn stretch(&mut self, weights: &[u32; 12]) {
+        for _ in 0..self.rng.within(10..=300) {
+            let e = self.single(weights);
+            self.push(e);
+        }
+    }
+
+    fn single(&mut self, weights: &[u32; 12]) -> [u8; 4] {
+        let c = self.crossing();
+        let t = self.track(c);
+        let on = self.rng.below(2) as u8;
+        match self.rng.weighted(weights) {
+            0 => TICK,
+            1 => [code::STRIKE_IN, c, t, 0],
+            2 => self.passage(c),
+            3 => [code::KIOSK_HOLD, c, 0, on],
+            4 => [code::OPERATOR_HOLD, c, 0, on],
+            5 => [code::ROUTE, c, t, on],
+            6 => [code::APPROACH, c, t, on],
+            7 => [code::TIME_RELEASE, c, 0, 0],
+            8 => self.follow(c),
+            9 => self.any_boom(c),
+            10 => [code::LAMP_REPORT, c, self.rng.below(5) as u8, on],
+            _ => junk_event(self.rng, &self.plant),
+        }
+    }
+
+    /// The passage of a train that is there, if there is one.
+    fn passage(&mut self, c: u8) -> [u8; 4] {
+        let first = self.track(c);
+        let record = &self.plant.crossings[usize::from(c)];
+        let tracks = self.plant.site.entries[usize::from(c)].tracks;
+        let there = (0..tracks).map(|t| (first + t) % tracks).find(|t| {
+            let t = usize::from(*t);
+            record.calling[t] > 0 || record.waiting[t] > 0
+        });
+        [code::PASSAGE, c, there.unwrap_or(first), 0]
+    }
+
+    fn any_boom(&mut self, c: u8) -> [u8; 4] {
+        let booms = self.plant.site.entries[usize::from(c)].booms();
+        let b = self.rng.below(booms.into()) as u8;
+        [code::BOOM_REPORT, c, b, self.rng.below(3) as u8]
+    }
+
+    /// The next report of a boom on its way, or a tick where none is.
+    fn follow(&mut self, c: u8) -> [u8; 4] {
+        let record = self.plant.crossings[usize::from(c)];
+        let booms = self.plant.site.entries[usize::from(c)].booms();
+        let target = |b: u8| match record.phase {
+            phase::ALL_DOWN => boom::DOWN,
+            phase::RIGHT_DOWN if b < 2 => boom::DOWN,
+            _ => boom::UP,
+        };
+        let first = self.rng.below(4) as u8;
+        let mut on_the_way = (0..booms).map(|b| (first + b) % booms);
+        match on_the_way.find(|b| record.booms[usize::from(*b)] != target(*b)) {
+            Some(b) if record.booms[usize::from(b)] == boom::MOVING || self.rng.once_in(3) => {
+                [code::BOOM_REPORT, c, b, target(b)]
+            }
+            Some(b) => [code::BOOM_REPORT, c, b, boom::MOVING],
+            None => TICK,
+        }
+    }
+
+    /// Every boom of the crossing reported alike.
+    fn all_booms(&mut self, c: u8, report: u8) {
+        for b in 0..self.plant.site.entries[usize::from(c)].booms() {
+            self.push([code::BOOM_REPORT, c, b, report]);
+        }
+    }
+
+    fn ticks(&mut self, count: u32) {
+        for _ in 0..count {
+            self.push(TICK);
+        }
+    }
+
+    /// Takes away whatever would refuse a time release.
+    fn clear(&mut self, c: u8) {
+        self.push([code::KIOSK_HOLD, c, 0, 0]);
+        for t in 0..self.plant.site.entries[usize::from(c)].tracks {
+            self.push([code::APPROACH, c, t, 0]);
+            self.push([code::ROUTE, c, t, 0]);
+        }
+        while self.plant.crossings[usize::from(c)].operator && self.has_room() {
+            if self.plant.crossings[usize::from(c)].calling == [0; 4] {
+                self.push([code::OPERATOR_HOLD, c, 0, 0]);
+            }
+            let e = self.passage(c);
+            self.push(e);
+        }
+    }
+
+    /// A time release at one or more crossings, with harmless events between its ticks,
+    /// sometimes cancelled or begun again.
+    fn release(&mut self) {
+        let count = self.rng.within(1..=self.plant.site.n.into());
+        for _ in 0..count {
+            let c = self.crossing();
+            self.clear(c);
+            for _ in 0..self.rng.below(4) {
+                let t = self.track(c);
+                self.push([code::STRIKE_IN, c, t, 0]);
+            }
+            self.push([code::TIME_RELEASE, c, 0, 0]);
+        }
+        let disturb = self.rng.once_in(3);
+        for _ in 0..272 {
+            self.push(TICK);
+            let c = self.crossing();
+            match self.rng.below(40) {
+                0 => {
+                    let e = self.passage(c);
+                    self.push(e);
+                }
+                1..=3 => {
+                    let e = self.follow(c);
+                    self.push(e);
+                }
+                4 if disturb && self.rng.once_in(4) => {
+                    let e = self.single(&OPERATORS);
+                    self.push(e);
+                }
+                _ => {}
+            }
+        }
+    }
+
+    /// A warning that begins out of raising and ends on the tick that ends a release.
+    fn late_warning(&mut self) {
+        let c = self.crossing();
+        let entry = self.plant.site.entries[usize::from(c)];
+        let t = self.track(c);
+        let pre = u32::from(entry.pre);
+        self.clear(c);
+        self.push([code::STRIKE_IN, c, t, 0]);
+        self.ticks(pre + u32::from(entry.gap));
+        self.all_booms(c, boom::DOWN);
+        while self.plant.crossings[usize::from(c)].calling != [0; 4] && self.has_room() {
+            let e = self.passage(c);
+            self.push(e);
+        }
+        self.push([code::STRIKE_IN, c, t, 0]);
+        self.push([code::TIME_RELEASE, c, 0, 0]);
+        let early = self.rng.below(3);
+        self.ticks(271 - early - pre);
+        self.all_booms(c, boom::UP);
+        self.ticks(pre + 2);
+    }
+
+    /// Fills one track to its last place, and past it.
+    fn fill(&mut self) {
+        let c = self.crossing();
+        let t = self.track(c);
+        let turn = self.rng.below(256);
+        for i in 0..257 {
+            if i == turn {
+                let on = self.rng.below(2) as u8;
+                self.push([code::ROUTE, c, t, on]);
+            }
+            self.push([code::STRIKE_IN, c, t, 0]);
+        }
+        for _ in 0..self.rng.below(600) {
+            self.push([code::PASSAGE, c, t, 0]);
+        }
+    }
+
+    /// More than 900 ticks out of normal position.
+    fn long_out(&mut self) {
+        if self.len - self.events.len() < 1000 {
+            return self.stretch(&STATION);
+        }
+        let c = self.crossing();
+        self.push([code::KIOSK_HOLD, c, 0, 1]);
+        for _ in 0..903 {
+            self.push(TICK);
+            if self.rng.once_in(50) {
+                let e = self.follow(c);
+                self.push(e);
+            }
+        }
+        self.push([code::KIOSK_HOLD, c, 0, 0]);
+        self.all_booms(c, boom::UP);
+    }
+}

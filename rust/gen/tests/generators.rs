@@ -1,0 +1,144 @@
+//! The generators give what their names say, and the same on every machine.
+
+use engine::{book_len, draw, event, panel_len, read_book, run};
+use gen::{
+    book, book_bytes, coherent, damaged_book, damaged_sheet, junk_event, mixed, plant, quick_site,
+    sheet_bytes, sheet_events, site, spoilt_plant, BookDamage, Coverage, Rng, SheetDamage, Spoil,
+};
+
+#[test]
+fn numbers_follow_from_the_seed() {
+    let mut rng = Rng::new(0);
+    assert_eq!(rng.next(), 0xe220_a839_7b1d_cdaf);
+    assert_eq!(rng.next(), 0x6e78_9e6a_a1b9_65f4);
+    let mut rng = Rng::new(7);
+    for n in 1..200 {
+        assert!(rng.below(n) < n);
+        assert!((n..=n + 3).contains(&rng.within(n..=n + 3)));
+    }
+}
+
+fn fold(hash: u64, bytes: &[u8]) -> u64 {
+    let step = |h: u64, b: &u8| (h ^ u64::from(*b)).wrapping_mul(0x100_0000_01b3);
+    bytes.iter().fold(hash, step)
+}
+
+#[test]
+fn the_same_on_every_machine() {
+    let mut hash = 0xcbf2_9ce4_8422_2325;
+    for index in 0..50 {
+        let mut rng = Rng::of_case(1, index);
+        hash = fold(hash, &book(&mut rng));
+        let start = plant(&mut rng);
+        let events = coherent(&mut rng, &start, 200);
+        hash = fold(hash, &sheet_bytes(&events));
+        hash = fold(hash, &mixed(&mut rng, &start, 50).concat());
+    }
+    assert_eq!(hash, SAME);
+}
+const SAME: u64 = 10629751045016529666;
+
+#[test]
+fn good_books_are_taken() {
+    let mut rng = Rng::new(1);
+    for _ in 0..2000 {
+        let settings = site(&mut rng);
+        let bytes = book_bytes(&settings);
+        let (number, plant) = read_book(&bytes);
+        assert_eq!(number, 0);
+        assert_eq!(plant.site, settings);
+        let mut out = vec![0; book_len(settings.n)];
+        assert_eq!(engine::write_book(&settings, &mut out), 0);
+        assert_eq!(out, bytes);
+    }
+}
+
+#[test]
+fn damaged_books_are_refused() {
+    let mut rng = Rng::new(2);
+    for damage in BookDamage::ALL {
+        let expected: &[u8] = match damage {
+            BookDamage::Empty => &[1],
+            BookDamage::Count => &[2],
+            BookDamage::Short | BookDamage::Long => &[1],
+            BookDamage::OneByte => &[0, 1, 2, 3],
+            BookDamage::Junk => &[0, 1, 2, 3],
+            _ => &[3],
+        };
+        for _ in 0..500 {
+            let bytes = damaged_book(&mut rng, damage);
+            assert!(bytes.len() <= 70);
+            let (number, _) = read_book(&bytes);
+            assert!(expected.contains(&number), "{damage:?} {bytes:?}");
+        }
+    }
+}
+
+#[test]
+fn plants_are_in_range() {
+    let mut rng = Rng::new(3);
+    for _ in 0..5000 {
+        assert!(plant(&mut rng).in_range());
+    }
+}
+
+#[test]
+fn spoilt_plants_are_refused() {
+    let mut rng = Rng::new(4);
+    for spoil in Spoil::ALL {
+        for _ in 0..300 {
+            let spoilt = spoilt_plant(&mut rng, *spoil);
+            let mut after = spoilt;
+            let e = junk_event(&mut rng, &spoilt);
+            assert_eq!(event(&mut after, e), (15, 0), "{spoil:?}");
+            assert_eq!(after, spoilt);
+            assert_eq!(draw(&spoilt, &mut []), 15, "{spoil:?}");
+            assert_eq!(run(&mut after, &[], &mut []).number, 15, "{spoil:?}");
+        }
+    }
+}
+
+#[test]
+fn damaged_sheets_are_refused() {
+    let mut rng = Rng::new(5);
+    for damage in SheetDamage::ALL {
+        let expected = match damage {
+            SheetDamage::OverLong | SheetDamage::Over4096 => 2,
+            _ => 4,
+        };
+        for _ in 0..100 {
+            let mut start = plant(&mut rng);
+            let events = mixed(&mut rng, &start, 5);
+            assert_eq!(sheet_events(&sheet_bytes(&events)), Some(events.clone()));
+            let bytes = damaged_sheet(&mut rng, sheet_bytes(&events), damage);
+            let mut frame = vec![0; panel_len(start.site.n)];
+            let answer = run(&mut start, &bytes, &mut frame);
+            assert_eq!(answer.number, expected, "{damage:?}");
+        }
+    }
+}
+
+#[test]
+fn traffic_reaches_its_states() {
+    let mut rng = Rng::new(6);
+    let mut seen = Coverage::new();
+    for _ in 0..60 {
+        let settings = quick_site(&mut rng);
+        let mut plant = engine::Plant::fresh(&settings);
+        let events = coherent(&mut rng, &plant, 4096);
+        assert_eq!(events.len(), 4096);
+        let mut panel = vec![0; panel_len(settings.n)];
+        for e in events {
+            let before = plant;
+            let answer = event(&mut plant, e);
+            seen.event(&before, e, answer, &plant);
+            assert_eq!(draw(&plant, &mut panel), 0);
+            seen.panel(&plant, &panel);
+        }
+    }
+    let left: Vec<String> = seen.missing();
+    let of_events = |s: &&String| s.starts_with("kind") || s.starts_with("phase");
+    assert!(!left.iter().any(|s| of_events(&s)), "{left:?}");
+    assert!(!left.iter().any(|s| s.starts_with("written")), "{left:?}");
+    assert!(!left.iter().any(|s| s.starts_with("road")), "{left:?}");
+}
