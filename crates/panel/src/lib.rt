@@ -1,5 +1,4 @@
 // The panel: sixteen bytes per crossing, drawn into a lent output (document 01, "Panel").
-mod bytes;
 
 use machine::Crossing;
 use machine::Entry;
@@ -35,34 +34,34 @@ pub fn row(beat: u8, s: Entry, c: Crossing) -> [u8; 16]
     let normal = is_normal(s, c);
     let secured = is_secured(s, c);
     let booms = c.booms;
-    let calling = bytes::sum(c.calling);
-    let waiting = bytes::sum(c.waiting);
+    let calling = panel_bytes::sum(c.calling);
+    let waiting = panel_bytes::sum(c.waiting);
     let has_booms = 2 <= s.kind;
-    let road = bytes::road(normal, c.lamps[0], c.lamps[1]);
-    let signal = bytes::signal(secured, c.lamps[3], c.lamps[2]);
-    let on = bytes::rhythm(beat, c.lamps[4], normal);
+    let road = panel_bytes::road(normal, c.lamps[0], c.lamps[1]);
+    let signal = panel_bytes::signal(secured, c.lamps[3], c.lamps[2]);
+    let on = panel_bytes::rhythm(beat, c.lamps[4], normal);
     [
         road,
-        bytes::flags(
+        panel_bytes::flags(
             (0 < road) & on,
             !normal & has_booms & on,
             (0 < signal) & on,
             on,
         ),
-        bytes::bit(!normal & !(has_booms & kind::booms::down(s.kind, booms))),
-        bytes::bit(!normal & has_booms),
-        bytes::bit(has_booms & ((c.phase == 2) | (c.phase == 3))),
-        bytes::bit((s.kind == 4) & (c.phase == 3)),
+        panel_bytes::bit(!normal & !(has_booms & kind::booms::down(s.kind, booms))),
+        panel_bytes::bit(!normal & has_booms),
+        panel_bytes::bit(has_booms & ((c.phase == 2) | (c.phase == 3))),
+        panel_bytes::bit((s.kind == 4) & (c.phase == 3)),
         signal,
-        bytes::distant(signal),
-        bytes::released(s, c.route, secured),
-        bytes::flags(normal, secured, Crossing::OVERDUE < c.out, false),
+        panel_bytes::distant(signal),
+        panel_bytes::released(s, c.route, secured),
+        panel_bytes::flags(normal, secured, Crossing::OVERDUE < c.out, false),
         c.phase,
-        bytes::flags(c.kiosk, c.operator, false, false),
-        bytes::low(calling),
-        bytes::high(calling),
-        bytes::low(waiting),
-        bytes::high(waiting),
+        panel_bytes::flags(c.kiosk, c.operator, false, false),
+        panel_bytes::low(calling),
+        panel_bytes::high(calling),
+        panel_bytes::low(waiting),
+        panel_bytes::high(waiting),
     ]
 }
 

@@ -1,6 +1,6 @@
 use borrow.Author.Tests.{eq-eqb, ne-eqb}
-use Rattle.panel.proofs.bytes.distant.Statement.{statement}
-use Rattle.panel.proofs.bytes.distant.Tie as tie
+use Rattle.panel_bytes.proofs.distant.Statement.{statement}
+use Rattle.panel_bytes.proofs.distant.Tie as tie
 
 returns : tie.Need-returns
 returns c = simp (eq-eqb _ _ (c .if1 .taken))

@@ -1,6 +1,6 @@
 use borrow.Author.Needs.{needs}
-use Rattle.panel.proofs.bytes.released.Statement.{statement}
-use Rattle.panel.proofs.bytes.released.Tie as tie
+use Rattle.panel_bytes.proofs.released.Statement.{statement}
+use Rattle.panel_bytes.proofs.released.Tie as tie
 
 dependent-requires : tie.Need-dependent-requires
 dependent-requires c κs = search needs

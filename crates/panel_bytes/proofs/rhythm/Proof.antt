@@ -1,6 +1,6 @@
 use Rattle.machine.specs.Panel.{rhythm}
-use Rattle.panel.proofs.bytes.rhythm.Statement.{statement}
-use Rattle.panel.proofs.bytes.rhythm.Tie as tie
+use Rattle.panel_bytes.proofs.rhythm.Statement.{statement}
+use Rattle.panel_bytes.proofs.rhythm.Tie as tie
 
 returns : tie.Need-returns
 unfolding rhythm
