@@ -17,7 +17,7 @@ use Rattle.machine.specs.SiteBook.{read, read-number}
 use Rattle.machine.specs.Sheet.{sheet-size, sheet-limit, sheet-event, sheet-number, ran, counted, run, run-panel}
 use Rattle.machine.proofs.Laws.{fresh-in-range}
 use Rattle.sheet.proofs.Calls.{number-taken, run-taken}
-use Rattle.report.specs.Report.{size, run-of, report-number, refused, counts, report, report-panel}
+use Rattle.report.specs.Report.{size, run-of, report-number, refused, counts, report, drawn, report-panel}
 
 pub read-gives : (b : List ℕ) → read b .number ≡ read-number b
 unfolding read
@@ -65,7 +65,7 @@ module _ (site sheet lent : List ℕ) where
   unfolding report report-panel
   report-refused k q z = (rw (q, ne-eqb _ _ z), rw (q, ne-eqb _ _ z))
 
-  pub report-taken : report-number site sheet lent ≡ 0 → (counts (size site) (run-of site sheet) ≡ report site sheet lent) × (panel (run-of site sheet .plant) ++ drop (16 * size site) lent ≡ report-panel site sheet lent)
+  pub report-taken : report-number site sheet lent ≡ 0 → (counts (size site) (run-of site sheet) ≡ report site sheet lent) × (drawn site sheet lent ≡ report-panel site sheet lent)
   unfolding report report-panel
   report-taken q = (rw q, rw q)
 

@@ -42,9 +42,10 @@ report site sheet lent =
     (counts (size site) (run-of site sheet))
     (refused (report-number site sheet lent))
 
--- the lent bytes after the call: the panel after the last event and, after it, what they held; refused, all as they were
+-- the panel after the last event and, after it, what the lent bytes held
+abbrev pub drawn : List ℕ → List ℕ → List ℕ → List ℕ
+drawn site sheet lent = panel (run-of site sheet .plant) ++ drop (16 * size site) lent
+
+-- the lent bytes after the call; refused, all as they were
 unfoldable pub report-panel : List ℕ → List ℕ → List ℕ → List ℕ
-report-panel site sheet lent =
-    cond (eqb (report-number site sheet lent) 0)
-    (panel (run-of site sheet .plant) ++ drop (16 * size site) lent)
-    lent
+report-panel site sheet lent = cond (eqb (report-number site sheet lent) 0) (drawn site sheet lent) lent
