@@ -4,6 +4,7 @@ ghost use mathlib.Core.Path.{_≡_};
 ghost use Rattle.machine.specs.Plant.{fresh-crossing, fresh-plant};
 
 // The settings of one crossing: kind 1 to 4, tracks 1 to 4, the mask of dependent tracks, F and G in ticks.
+#[repr(C)]
 pub struct Entry {
     pub kind: u8,
     pub tracks: u8,
@@ -13,6 +14,7 @@ pub struct Entry {
 }
 
 // The settings of a plant: n crossings, the entries past n all zero.
+#[repr(C)]
 pub struct Site {
     pub n: u8,
     pub entries: [Entry; 8],
@@ -21,6 +23,7 @@ pub struct Site {
 // One crossing: four arrays by track, the last reports of its booms and lamps, and its numbers.
 // Booms: 0 up, 1 moving, 2 down. Lamps: road white, road red, train signal red, train signal white, flasher.
 // Phases: 0 open, 1 warning, 2 right booms ordered down, 3 all ordered down, 4 raising.
+#[repr(C)]
 pub struct Crossing {
     pub calling: [u8; 4],
     pub waiting: [u8; 4],
@@ -37,6 +40,7 @@ pub struct Crossing {
 }
 
 // The plant goes in and comes back by value.
+#[repr(C)]
 pub struct Plant {
     pub site: Site,
     pub beat: u8,
@@ -44,6 +48,7 @@ pub struct Plant {
 }
 
 // An event: any four bytes.
+#[repr(C)]
 pub struct Event {
     pub code: u8,
     pub crossing: u8,
@@ -52,6 +57,7 @@ pub struct Event {
 }
 
 // What an event call returns: number 0 if taken, the trains written off, the plant after it.
+#[repr(C)]
 pub struct Answer {
     pub number: u8,
     pub written: u32,
@@ -59,12 +65,14 @@ pub struct Answer {
 }
 
 // What reading a site book returns.
+#[repr(C)]
 pub struct Reading {
     pub number: u8,
     pub plant: Plant,
 }
 
 // What a sheet run returns.
+#[repr(C)]
 pub struct Run {
     pub number: u8,
     pub plant: Plant,

@@ -1,13 +1,13 @@
 //! Compares two crossing engines over generated inputs.
 
 pub mod case;
+pub mod chart;
 pub mod check;
 pub mod engines;
 pub mod print;
 pub mod search;
 pub mod second;
 pub mod shrink;
-pub mod speed;
 
 pub use engine::{Plant, Run, Site};
 

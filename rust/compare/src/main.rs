@@ -1,16 +1,18 @@
 //! Compares the plain engine with a second one.
 //!
 //! compare [--seconds N] [--cases N] [--seed N] [--first N] [--sessions] [--out DIR]
-//!         [--fault N | --self-test | --speed]
+//!         [--fault N | --self-test]
 
+use compare::case::Case;
+use compare::chart;
 use compare::check::Pair;
 use compare::engines::{Plain, Planted};
-use compare::print::{files, text};
+use compare::print::{files, is_fresh, text};
 use compare::search::{
-    find_fault, reduce, search, search_fixed, smallest, Difference, Found, Outcome, Plan,
+    find_fault, from_fresh, reduce, search, search_fixed, smallest, Difference, Found, Outcome,
+    Plan,
 };
 use compare::second::second;
-use compare::speed::{events_per_second, loads};
 use compare::Engine;
 use engine::faulty::{Fault, FAULTS};
 use gen::Coverage;
@@ -18,7 +20,7 @@ use std::process::ExitCode;
 use std::time::{Duration, Instant};
 
 const USAGE: &str = "compare [--seconds N] [--cases N] [--seed N] [--first N] [--sessions] \
-                     [--out DIR] [--fault N | --self-test | --speed]";
+                     [--out DIR] [--fault N | --self-test]";
 const SECONDS: u64 = 120;
 const SELF_TEST_CASES: u64 = 40_000;
 const SELF_TEST_SESSIONS: u64 = 1_000;
@@ -33,7 +35,6 @@ struct Options {
     out: Option<String>,
     sessions: bool,
     self_test: bool,
-    speed: bool,
 }
 
 fn options() -> Option<Options> {
@@ -46,7 +47,6 @@ fn options() -> Option<Options> {
         match arg.as_str() {
             "--self-test" => options.self_test = true,
             "--sessions" => options.sessions = true,
-            "--speed" => options.speed = true,
             "--seconds" => options.seconds = Some(args.next()?.parse().ok()?),
             "--cases" => options.cases = Some(args.next()?.parse().ok()?),
             "--seed" => options.seed = args.next()?.parse().ok()?,
@@ -75,6 +75,11 @@ impl Options {
         }
     }
 
+    /// All kinds of cases from the first on: then everything must be reached.
+    fn is_whole(&self) -> bool {
+        !self.sessions && self.first == 0
+    }
+
     fn engine(&self) -> Option<Box<dyn Engine>> {
         match self.fault {
             Some(number) => Some(Box::new(Planted::numbered(number)?)),
@@ -88,9 +93,6 @@ fn main() -> ExitCode {
         eprintln!("{USAGE}");
         return ExitCode::from(2);
     };
-    if options.speed {
-        return speed(&options, engine.as_ref());
-    }
     if options.self_test {
         return self_test(&options);
     }
@@ -105,7 +107,10 @@ fn compare(options: &Options, second: &dyn Engine) -> ExitCode {
     };
     let since = Instant::now();
     let mut fixed = Coverage::new();
-    if !options.sessions && options.first == 0 {
+    if options.is_whole() {
+        if !chart_holds(pair) {
+            return ExitCode::FAILURE;
+        }
         let outcome = search_fixed(pair);
         println!("{} fixed cases", outcome.cases);
         if outcome.difference.is_some() {
@@ -125,6 +130,22 @@ fn compare(options: &Options, second: &dyn Engine) -> ExitCode {
     close(options, pair, &outcome, since.elapsed())
 }
 
+/// The chart rows without a star, on both engines.
+fn chart_holds(pair: Pair) -> bool {
+    let mut holds = true;
+    for engine in [pair.first, pair.second] {
+        let failing = chart::failing(engine);
+        holds &= failing.is_empty();
+        for row in failing {
+            println!("chart, {}: {row} does not hold", engine.name());
+        }
+    }
+    if holds {
+        println!("chart rows without a star hold on both, kinds 1 to 4");
+    }
+    holds
+}
+
 fn progress(seconds: u64, cases: u64, seen: &Coverage) {
     let (reached, all) = seen.reached();
     let events = seen.events();
@@ -132,20 +153,27 @@ fn progress(seconds: u64, cases: u64, seen: &Coverage) {
 }
 
 fn close(options: &Options, pair: Pair, outcome: &Outcome, time: Duration) -> ExitCode {
+    let seconds = time.as_secs_f64();
+    if let Some(difference) = &outcome.difference {
+        println!("{} cases in {seconds:.1} s", outcome.cases);
+        show(options, pair, difference);
+        return ExitCode::FAILURE;
+    }
     println!("{}", outcome.seen.table());
-    for left in outcome.seen.missing() {
+    println!("{} cases in {seconds:.1} s", outcome.cases);
+    println!("no difference");
+    let missing = outcome.seen.missing();
+    for left in &missing {
         println!("not reached: {left}");
     }
-    let seconds = time.as_secs_f64();
-    println!("{} cases in {seconds:.1} s", outcome.cases);
-    let Some(difference) = &outcome.difference else {
-        println!("no difference");
-        return ExitCode::SUCCESS;
-    };
-    show(options, pair, difference);
-    ExitCode::FAILURE
+    match options.is_whole() && !missing.is_empty() {
+        true => ExitCode::FAILURE,
+        false => ExitCode::SUCCESS,
+    }
 }
 
+/// The smallest input found. `crossing` starts from a fresh plant: where the input does not,
+/// another that does is looked for.
 fn show(options: &Options, pair: Pair, difference: &Difference) {
     match (options.seed, difference.index) {
         (seed, Some(index)) => {
@@ -153,13 +181,28 @@ fn show(options: &Options, pair: Pair, difference: &Difference) {
         }
         _ => println!("DIFFERENCE in a fixed case"),
     }
-    let (case, what) = reduce(pair, difference.case.clone());
-    println!("{what}");
-    print!("smallest input found: {}", text(&case));
-    let Some(dir) = &options.out else {
-        return;
-    };
-    let (site, sheet) = files(&case);
+    let (mut case, what) = reduce(pair, difference.case.clone());
+    print!("{what}\nsmallest input found: {}", text(&case));
+    if !is_fresh(&case) {
+        match from_fresh(pair, options.seed) {
+            Some((other, what)) => {
+                print!(
+                    "{what}\nsmallest found from a fresh plant: {}",
+                    text(&other)
+                );
+                case = other;
+            }
+            None => println!("none found from a fresh plant"),
+        }
+    }
+    if let Some(dir) = &options.out {
+        write_files(dir, &case);
+    }
+}
+
+/// Writes the files that `crossing` can be run on.
+fn write_files(dir: &str, case: &Case) {
+    let (site, sheet) = files(case);
     for (name, bytes) in [("site.bin", site), ("sheet.bin", sheet)] {
         let path = std::path::Path::new(dir).join(name);
         if let Some(Err(error)) = bytes.map(|bytes| std::fs::write(&path, bytes)) {
@@ -197,16 +240,4 @@ fn self_test(options: &Options) -> ExitCode {
     } else {
         ExitCode::FAILURE
     }
-}
-
-fn speed(options: &Options, second: &dyn Engine) -> ExitCode {
-    let time = Duration::from_secs(options.seconds.unwrap_or(2));
-    for load in loads(options.seed) {
-        for engine in [&Plain as &dyn Engine, second] {
-            let rate = events_per_second(engine, &load, time) / 1e6;
-            let name = engine.name();
-            println!("{:<14} {name:<10} {rate:>8.2} million events/s", load.name);
-        }
-    }
-    ExitCode::SUCCESS
 }

@@ -67,6 +67,11 @@ fn plant_text(plant: &Plant) -> String {
     text
 }
 
+/// Whether a case starts from a fresh plant.
+pub fn is_fresh(case: &Case) -> bool {
+    start(case).is_none_or(|plant| *plant == Plant::fresh(&plant.site))
+}
+
 /// Everything needed to play a case again.
 pub fn text(case: &Case) -> String {
     let mut text = format!("{}\n", case.name());
@@ -84,7 +89,7 @@ pub fn text(case: &Case) -> String {
         let _ = writeln!(text, "settings  {site:?}");
     }
     match start(case) {
-        Some(plant) if *plant != Plant::fresh(&plant.site) => {
+        Some(plant) if !is_fresh(case) => {
             let _ = write!(text, "from      {}", plant_text(plant));
         }
         _ => text.push_str("from      the fresh plant\n"),

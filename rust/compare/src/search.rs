@@ -2,8 +2,9 @@
 
 use crate::case::Case;
 use crate::check::Pair;
-use crate::engines::{Plain, Planted};
+use crate::engines::Planted;
 use crate::print::event_count;
+use crate::second::Proved;
 use crate::shrink::shrink;
 use engine::faulty::Fault;
 use gen::Coverage;
@@ -118,6 +119,19 @@ pub fn reduce(pair: Pair, case: Case) -> (Case, String) {
     (case, what)
 }
 
+/// Sessions looked at for a difference from a fresh plant.
+const FRESH_SESSIONS: u64 = 2_000;
+
+/// The smallest difference found in a list of events from a fresh plant.
+pub fn from_fresh(pair: Pair, seed: u64) -> Option<(Case, String)> {
+    let plan = Plan {
+        sessions: true,
+        ..Plan::of_cases(seed, FRESH_SESSIONS)
+    };
+    let outcome = search(pair, plan, &mut |_, _| {});
+    Some(reduce(pair, outcome.difference?.case))
+}
+
 /// How a planted fault was found.
 pub struct Found {
     pub cases: u64,
@@ -125,12 +139,12 @@ pub struct Found {
     pub case: Case,
 }
 
-/// Looks for a planted fault.
+/// Looks for a fault planted in the plain engine, against the proved one.
 pub fn find_fault(fault: &Fault, plan: Plan) -> Option<Found> {
     let planted = Planted::fault(fault);
     let pair = Pair {
-        first: &Plain,
-        second: &planted,
+        first: &planted,
+        second: &Proved,
     };
     let since = Instant::now();
     let outcome = search(pair, plan, &mut |_, _| {});
@@ -145,8 +159,8 @@ pub fn find_fault(fault: &Fault, plan: Plan) -> Option<Found> {
 pub fn smallest(fault: &Fault, found: &Found) -> usize {
     let planted = Planted::fault(fault);
     let pair = Pair {
-        first: &Plain,
-        second: &planted,
+        first: &planted,
+        second: &Proved,
     };
     event_count(&reduce(pair, found.case.clone()).0)
 }

@@ -1,9 +1,102 @@
-//! The engine that the plain one is compared with.
+//! The proved engine, which the plain one is compared with.
 
-use crate::engines::Planted;
 use crate::Engine;
+use engine::{Crossing, Entry, Plant, Run, Site};
 
-/// For now the copy without a fault.
+/// The proved engine.
+pub struct Proved;
+
+impl Engine for Proved {
+    fn name(&self) -> String {
+        "proved".into()
+    }
+
+    fn read_book(&self, book: &[u8]) -> (u8, Plant) {
+        let reading = wilzhoram::read(book);
+        (reading.number, plain_plant(&reading.plant))
+    }
+
+    fn write_book(&self, site: &Site, out: &mut [u8]) -> u8 {
+        wilzhoram::write(proved_site(site), out)
+    }
+
+    fn event(&self, plant: &mut Plant, [code, crossing, place, value]: [u8; 4]) -> (u8, u32) {
+        let event = wilzhoram::Event {
+            code,
+            crossing,
+            place,
+            value,
+        };
+        let answer = wilzhoram::event(proved_plant(plant), event);
+        *plant = plain_plant(&answer.plant);
+        (answer.number, answer.written)
+    }
+
+    fn draw(&self, plant: &Plant, panel: &mut [u8]) -> u8 {
+        wilzhoram::draw(proved_plant(plant), panel)
+    }
+
+    fn run(&self, plant: &mut Plant, sheet: &[u8], panel: &mut [u8]) -> Run {
+        let run = wilzhoram::run(proved_plant(plant), sheet, panel);
+        *plant = plain_plant(&run.plant);
+        Run {
+            number: run.number,
+            taken: run.taken.into(),
+            refused: run.refused.into(),
+            written_off: run.written,
+        }
+    }
+}
+
+/// The engine that the plain one is compared with.
 pub fn second() -> Box<dyn Engine> {
-    Box::new(Planted::none())
+    Box::new(Proved)
+}
+
+/// The same fields in the other engine's type.
+macro_rules! fields {
+    ($from:expr => $($to:ident)::+ { $($field:ident),* }) => {
+        $($to)::+ { $($field: $from.$field),* }
+    };
+}
+
+macro_rules! entry {
+    ($from:expr => $($to:ident)::+) => {
+        fields!($from => $($to)::+ { kind, tracks, mask, pre, gap })
+    };
+}
+
+macro_rules! crossing {
+    ($from:expr => $($to:ident)::+) => {
+        fields!($from => $($to)::+ {
+            calling, waiting, route, occupied, booms, lamps, kiosk, operator, countdown, phase,
+            timer, out
+        })
+    };
+}
+
+fn proved_site(site: &Site) -> wilzhoram::Site {
+    wilzhoram::Site {
+        n: site.n,
+        entries: site.entries.map(|e| entry!(e => wilzhoram::Entry)),
+    }
+}
+
+fn proved_plant(plant: &Plant) -> wilzhoram::Plant {
+    wilzhoram::Plant {
+        site: proved_site(&plant.site),
+        beat: plant.beat,
+        crossings: plant.crossings.map(|c| crossing!(c => wilzhoram::Crossing)),
+    }
+}
+
+fn plain_plant(plant: &wilzhoram::Plant) -> Plant {
+    Plant {
+        site: Site {
+            n: plant.site.n,
+            entries: plant.site.entries.map(|e| entry!(e => Entry)),
+        },
+        beat: plant.beat,
+        crossings: plant.crossings.map(|c| crossing!(c => Crossing)),
+    }
 }

@@ -51,10 +51,30 @@ pub struct Coverage {
     phases: [[u64; 5]; 5],
     moves: [[u64; 5]; 5],
     rhythms: [[u64; 5]; 4],
-    ones: [u8; PANEL],
-    zeros: [u8; PANEL],
+    bytes: PanelBytes,
     written_off: [u64; 3],
     panels: u64,
+}
+
+/// How often each panel byte had each value.
+#[derive(Clone)]
+struct PanelBytes([[u64; 256]; PANEL]);
+
+impl Default for PanelBytes {
+    fn default() -> PanelBytes {
+        PanelBytes([[0; 256]; PANEL])
+    }
+}
+
+impl PanelBytes {
+    /// How often a bit of a byte had a value.
+    fn bit(&self, byte: usize, bit: usize, value: usize) -> u64 {
+        let counts = self.0[byte].iter().enumerate();
+        counts
+            .filter(|(b, _)| b >> bit & 1 == value)
+            .map(|(_, n)| n)
+            .sum()
+    }
 }
 
 impl Coverage {
@@ -100,9 +120,8 @@ impl Coverage {
     pub fn panel(&mut self, plant: &Plant, panel: &[u8]) {
         self.panels += 1;
         for (record, bytes) in plant.crossings.iter().zip(panel.chunks_exact(PANEL)) {
-            for (i, byte) in bytes.iter().enumerate() {
-                self.ones[i] |= byte;
-                self.zeros[i] |= !byte;
+            for (counts, byte) in self.bytes.0.iter_mut().zip(bytes) {
+                counts[usize::from(*byte)] += 1;
             }
             let normal = record.phase == phase::OPEN && record.booms == [0; 4];
             let shown = [bytes[0], bytes[3], bytes[6], bytes[7]];
@@ -130,10 +149,10 @@ impl Coverage {
             other.rhythms.as_flattened(),
         );
         sums(&mut self.written_off, &other.written_off);
-        for i in 0..PANEL {
-            self.ones[i] |= other.ones[i];
-            self.zeros[i] |= other.zeros[i];
-        }
+        sums(
+            self.bytes.0.as_flattened_mut(),
+            other.bytes.0.as_flattened(),
+        );
         self.panels += other.panels;
     }
 }
@@ -191,11 +210,13 @@ impl Coverage {
         }
         for (c, counts) in self.codes.iter().enumerate() {
             for n in code_numbers(c) {
-                goal("code", format!("{c}:{n}"), counts[usize::from(n)]);
+                goal("code:number", format!("{c}:{n}"), counts[usize::from(n)]);
             }
         }
         for kind in 1..=4 {
             goal("kind", format!("{kind}"), self.phases[kind].iter().sum());
+        }
+        for kind in 1..=4 {
             for p in kind_phases(kind) {
                 goal("kind:phase", format!("{kind}:{p}"), self.phases[kind][*p]);
             }
@@ -230,11 +251,11 @@ impl Coverage {
     fn bit_goals(&self, goals: &mut Vec<Goal>) {
         for (i, mask) in PANEL_BITS.into_iter().enumerate() {
             for bit in (0..8).filter(|bit| mask >> bit & 1 == 1) {
-                for (value, seen) in [(0, self.zeros[i]), (1, self.ones[i])] {
+                for value in 0..2 {
                     goals.push(Goal {
-                        group: "panel bit",
+                        group: "panel byte.bit=value",
                         name: format!("{i}.{bit}={value}"),
-                        count: u64::from(seen >> bit & 1),
+                        count: self.bytes.bit(i, bit, value),
                     });
                 }
             }
@@ -254,25 +275,34 @@ impl Coverage {
         (reached, goals.len())
     }
 
-    /// One line per group: each thing and how often it was reached.
+    /// A line or more per group: each thing and how often it was reached.
     pub fn table(&self) -> String {
         let mut text = String::new();
-        let mut group = "";
-        for g in self.goals().iter().filter(|g| g.group != "panel bit") {
-            if g.group != group {
-                let _ = write!(text, "\n{:<22}", g.group);
-                group = g.group;
+        let (mut group, mut width) = ("", 0);
+        for g in self.goals() {
+            let cell = format!("  {} {}", g.name, short(g.count));
+            if g.group != group || width + cell.len() > TABLE_WIDTH {
+                let head = if g.group == group { "" } else { g.group };
+                let _ = write!(text, "\n{head:<22}");
+                (group, width) = (g.group, 22);
             }
-            let _ = write!(text, " {} ({})", g.name, g.count);
-        }
-        let _ = write!(text, "\n{:<22}", "panel bits 0 and 1");
-        for (i, mask) in PANEL_BITS.into_iter().enumerate() {
-            let both = self.zeros[i] & self.ones[i] & mask;
-            let _ = write!(text, " {i}: {both:02x}/{mask:02x}");
+            width += cell.len();
+            text.push_str(&cell);
         }
         let (reached, all) = self.reached();
-        let _ = writeln!(text, "\n{:<22} {}", "panels drawn", self.panels);
-        let _ = writeln!(text, "{:<22} {reached} of {all}", "reached");
+        let _ = writeln!(text, "\n{:<24}{}", "panels drawn", self.panels);
+        let _ = writeln!(text, "{:<24}{reached} of {all}", "reached");
         text
+    }
+}
+
+const TABLE_WIDTH: usize = 110;
+
+/// A count as people read it: 734, 12k, 3.4M.
+fn short(count: u64) -> String {
+    match count {
+        0..=9_999 => format!("{count}"),
+        10_000..=999_999 => format!("{}k", count / 1000),
+        _ => format!("{}.{}M", count / 1_000_000, count / 100_000 % 10),
     }
 }

@@ -1,0 +1,56 @@
+// The engine for programs in C and Rust: the five calls of include/wilzhoram.h, each thin over the call that does the work.
+// Any plant, any settings, any bytes; a refused call leaves every lent byte.
+use machine::Answer;
+use machine::Event;
+use machine::Plant;
+use machine::Reading;
+use machine::Run;
+use machine::Site;
+ghost use mathlib.Core.Path.{_≡_};
+ghost use Rattle.machine.specs.Panel.{draw-number, drawn};
+ghost use Rattle.machine.specs.Sheet.{run, run-panel};
+ghost use Rattle.machine.specs.SiteBook.{read, write-number, written-book};
+ghost use Rattle.machine.specs.Step.{step};
+
+// A site book read: its number and its fresh plant.
+#[no_mangle]
+pub extern "C" fn wilzhoram_read(book: &[u8]) -> Reading
+    ensures { λ r. ⌜ r ≡ read (now (book .entry)) ⌝ }
+{
+    book::read(book)
+}
+
+// Settings written as a site book into a lent output.
+#[no_mangle]
+pub extern "C" fn wilzhoram_write(site: Site, book: &mut [u8]) -> u8
+    ensures number { λ r. ⌜ r ≡ write-number site (now (book .entry)) ⌝ }
+    ensures bytes { λ _. ⌜ now (book .exit) ≡ written-book site (now (book .entry)) ⌝ }
+{
+    book::write(site, book)
+}
+
+// One event: its number, the trains written off and the plant after it.
+#[no_mangle]
+pub extern "C" fn wilzhoram_event(plant: Plant, event: Event) -> Answer
+    ensures { λ r. ⌜ r ≡ step plant event ⌝ }
+{
+    event::handle(plant, event)
+}
+
+// The panel drawn into a lent output.
+#[no_mangle]
+pub extern "C" fn wilzhoram_draw(plant: Plant, panel: &mut [u8]) -> u8
+    ensures number { λ r. ⌜ r ≡ draw-number plant (now (panel .entry)) ⌝ }
+    ensures bytes { λ _. ⌜ now (panel .exit) ≡ drawn plant (now (panel .entry)) ⌝ }
+{
+    panel::draw(plant, panel)
+}
+
+// A sheet run, and the panel after its last event drawn into a lent output.
+#[no_mangle]
+pub extern "C" fn wilzhoram_run(plant: Plant, sheet: &[u8], panel: &mut [u8]) -> Run
+    ensures answer { λ r. ⌜ r ≡ run plant (now (sheet .entry)) (now (panel .entry)) ⌝ }
+    ensures bytes { λ _. ⌜ now (panel .exit) ≡ run-panel plant (now (sheet .entry)) (now (panel .entry)) ⌝ }
+{
+    sheet::run(plant, sheet, panel)
+}

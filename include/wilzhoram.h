@@ -1,0 +1,98 @@
+/* Wilzhoram, the level-crossing engine: its five calls for C. Link libwilzhoram.a (rt staticlib wilzhoram), x86-64.
+ *
+ * Every call ends on every input and answers with a number: 0 taken, otherwise a refusal of the table in README.md.
+ * A refused call gives back the plant it was given and zero counts, and leaves every lent byte as it was.
+ * A bool holds 0 or 1; every other field may hold any value (out of its range: number 15, in settings to write 2 or 3). */
+#ifndef WILZHORAM_H
+#define WILZHORAM_H
+
+#include <stdbool.h>
+#include <stddef.h>
+#include <stdint.h>
+
+#ifdef __cplusplus
+extern "C" {
+#endif
+
+/* The settings of one crossing. */
+typedef struct {
+    uint8_t kind;   /* 1 lights only, 2 half booms, 3 two full booms, 4 four full booms */
+    uint8_t tracks; /* 1 to 4 */
+    uint8_t mask;   /* bit t set where track t depends on a route */
+    uint16_t pre;   /* F, pre-ringing in ticks, 1 to 180 */
+    uint16_t gap;   /* G, right booms to left in ticks, 1 to 90 for kind 4, otherwise 0 */
+} wilzhoram_entry;
+
+/* The settings of a plant: n crossings, 1 to 8; the entries past n all zero. */
+typedef struct {
+    uint8_t n;
+    wilzhoram_entry entries[8];
+} wilzhoram_site;
+
+/* What the plant holds for one crossing. */
+typedef struct {
+    uint8_t calling[4], waiting[4]; /* trains, by track */
+    bool route[4], occupied[4];     /* by track */
+    uint8_t booms[4];               /* last reports: 0 up, 1 moving, 2 down */
+    bool lamps[5];                  /* road white, road red, train signal red, train signal white, flasher; true whole */
+    bool kiosk, operator_hold;
+    uint16_t countdown; /* of the time release, 0 to 270 */
+    uint8_t phase;      /* 0 open, 1 warning, 2 right booms ordered down, 3 all ordered down, 4 raising */
+    uint16_t timer;
+    uint16_t out; /* ticks out of normal, 0 to 901 */
+} wilzhoram_crossing;
+
+/* The plant: it goes in and comes back by value. */
+typedef struct {
+    wilzhoram_site site;
+    uint8_t beat; /* 0 to 3 */
+    wilzhoram_crossing crossings[8];
+} wilzhoram_plant;
+
+/* An event: any four bytes. */
+typedef struct {
+    uint8_t code, crossing, place, value;
+} wilzhoram_event_bytes;
+
+/* What reading a book gives. */
+typedef struct {
+    uint8_t number;
+    wilzhoram_plant plant;
+} wilzhoram_reading;
+
+/* What an event gives. */
+typedef struct {
+    uint8_t number;
+    uint32_t written; /* trains written off */
+    wilzhoram_plant plant;
+} wilzhoram_answer;
+
+/* What a sheet run gives. */
+typedef struct {
+    uint8_t number;
+    wilzhoram_plant plant;
+    uint16_t taken, refused; /* events */
+    uint32_t written;        /* trains written off */
+} wilzhoram_run_result;
+
+/* Reads a site book: its fresh plant, or number 1, 2 or 3 and the fresh plant of an all-zero site. */
+wilzhoram_reading wilzhoram_read(const uint8_t *book, size_t length);
+
+/* Writes settings as a site book of 1 + 7n bytes: 0, or number 2, 3 or 14. */
+uint8_t wilzhoram_write(wilzhoram_site site, uint8_t *book, size_t length);
+
+/* Applies one event: the plant after it, or number 5 to 13 or 15. */
+wilzhoram_answer wilzhoram_event(wilzhoram_plant plant, wilzhoram_event_bytes event);
+
+/* Draws the panel of 16n bytes: 0, or number 14 or 15. */
+uint8_t wilzhoram_draw(wilzhoram_plant plant, uint8_t *panel, size_t length);
+
+/* Applies each event of a sheet in turn and draws the panel after the last: 0, or number 2, 4, 14 or 15. */
+wilzhoram_run_result wilzhoram_run(wilzhoram_plant plant, const uint8_t *sheet, size_t sheet_length, uint8_t *panel,
+                                   size_t panel_length);
+
+#ifdef __cplusplus
+}
+#endif
+
+#endif

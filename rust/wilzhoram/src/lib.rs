@@ -1,0 +1,138 @@
+//! The proved engine's five calls; include/wilzhoram.h says what each does. The types are
+//! laid out as there.
+
+/// The settings of one crossing.
+#[repr(C)]
+#[derive(Clone, Copy, PartialEq, Debug)]
+pub struct Entry {
+    pub kind: u8,
+    pub tracks: u8,
+    pub mask: u8,
+    pub pre: u16,
+    pub gap: u16,
+}
+
+/// The settings of a plant; the entries past `n` all zero.
+#[repr(C)]
+#[derive(Clone, Copy, PartialEq, Debug)]
+pub struct Site {
+    pub n: u8,
+    pub entries: [Entry; 8],
+}
+
+/// What the plant holds for one crossing.
+#[repr(C)]
+#[derive(Clone, Copy, PartialEq, Debug)]
+pub struct Crossing {
+    pub calling: [u8; 4],
+    pub waiting: [u8; 4],
+    pub route: [bool; 4],
+    pub occupied: [bool; 4],
+    pub booms: [u8; 4],
+    pub lamps: [bool; 5],
+    pub kiosk: bool,
+    pub operator: bool,
+    pub countdown: u16,
+    pub phase: u8,
+    pub timer: u16,
+    pub out: u16,
+}
+
+/// The plant: it goes in and comes back by value.
+#[repr(C)]
+#[derive(Clone, Copy, PartialEq, Debug)]
+pub struct Plant {
+    pub site: Site,
+    pub beat: u8,
+    pub crossings: [Crossing; 8],
+}
+
+/// An event: any four bytes.
+#[repr(C)]
+#[derive(Clone, Copy, PartialEq, Debug)]
+pub struct Event {
+    pub code: u8,
+    pub crossing: u8,
+    pub place: u8,
+    pub value: u8,
+}
+
+/// What reading a book gives.
+#[repr(C)]
+#[derive(Clone, Copy, PartialEq, Debug)]
+pub struct Reading {
+    pub number: u8,
+    pub plant: Plant,
+}
+
+/// What an event gives.
+#[repr(C)]
+#[derive(Clone, Copy, PartialEq, Debug)]
+pub struct Answer {
+    pub number: u8,
+    /// Trains written off.
+    pub written: u32,
+    pub plant: Plant,
+}
+
+/// What a sheet run gives.
+#[repr(C)]
+#[derive(Clone, Copy, PartialEq, Debug)]
+pub struct Run {
+    pub number: u8,
+    pub plant: Plant,
+    pub taken: u16,
+    pub refused: u16,
+    /// Trains written off.
+    pub written: u32,
+}
+
+/// A slice goes as its first byte and its length.
+mod c {
+    use super::{Answer, Event, Plant, Reading, Run, Site};
+
+    extern "C" {
+        pub fn wilzhoram_read(book: *const u8, length: usize) -> Reading;
+        pub fn wilzhoram_write(site: Site, book: *mut u8, length: usize) -> u8;
+        pub fn wilzhoram_event(plant: Plant, event: Event) -> Answer;
+        pub fn wilzhoram_draw(plant: Plant, panel: *mut u8, length: usize) -> u8;
+        pub fn wilzhoram_run(
+            plant: Plant,
+            sheet: *const u8,
+            sheet_length: usize,
+            panel: *mut u8,
+            panel_length: usize,
+        ) -> Run;
+    }
+}
+
+/// Reads a site book.
+pub fn read(book: &[u8]) -> Reading {
+    // SAFETY: the pointer and the length are those of one slice, lent for the call.
+    unsafe { c::wilzhoram_read(book.as_ptr(), book.len()) }
+}
+
+/// Writes settings as a site book of 1 + 7n bytes.
+pub fn write(site: Site, book: &mut [u8]) -> u8 {
+    // SAFETY: as in `read`.
+    unsafe { c::wilzhoram_write(site, book.as_mut_ptr(), book.len()) }
+}
+
+/// Applies one event.
+pub fn event(plant: Plant, event: Event) -> Answer {
+    // SAFETY: both go by value, laid out as C does.
+    unsafe { c::wilzhoram_event(plant, event) }
+}
+
+/// Draws the panel of 16n bytes.
+pub fn draw(plant: Plant, panel: &mut [u8]) -> u8 {
+    // SAFETY: as in `read`.
+    unsafe { c::wilzhoram_draw(plant, panel.as_mut_ptr(), panel.len()) }
+}
+
+/// Applies each event of a sheet in turn and draws the panel after the last.
+pub fn run(plant: Plant, sheet: &[u8], panel: &mut [u8]) -> Run {
+    let (events, out) = (sheet.as_ptr(), panel.as_mut_ptr());
+    // SAFETY: as in `read`; a lent panel and a lent sheet never overlap.
+    unsafe { c::wilzhoram_run(plant, events, sheet.len(), out, panel.len()) }
+}
