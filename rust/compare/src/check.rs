@@ -46,13 +46,13 @@ impl Pair<'_> {
         if number != 0 {
             return Ok(());
         }
-        let mut back = vec![0x55; book.len()];
-        same(
-            "write of a book read",
-            &0,
-            &self.second.write_book(&plant.site, &mut back),
-        )?;
-        same_bytes("book read and written", book, &back)
+        for engine in [self.first, self.second] {
+            let mut back = vec![0x55; book.len()];
+            let number = engine.write_book(&plant.site, &mut back);
+            same("write of a book read", &0, &number)?;
+            same_bytes("book read and written", book, &back)?;
+        }
+        Ok(())
     }
 
     fn write(&self, site: &Site, frame: &[u8], seen: &mut Coverage) -> Check {
@@ -65,9 +65,12 @@ impl Pair<'_> {
         if number != 0 {
             return same_bytes("book of a refused call", &out, frame);
         }
-        let (number, plant) = self.second.read_book(&out);
-        same("read of a book written", &0, &number)?;
-        same_plant(&Plant::fresh(site), &plant)
+        for engine in [self.first, self.second] {
+            let (number, plant) = engine.read_book(&out);
+            same("read of a book written", &0, &number)?;
+            same_plant(&Plant::fresh(site), &plant)?;
+        }
+        Ok(())
     }
 
     /// One event; `plant` becomes the plant after it.
@@ -118,10 +121,13 @@ impl Pair<'_> {
             let step = step.and_then(|_| self.draw(&plant, &mut panel, seen));
             step.map_err(|what| format!("event {i}: {what}"))?;
         }
-        let mut back = vec![0; book_len(site.n)];
-        let number = self.second.write_book(&plant.site, &mut back);
-        same("write of the site", &0, &number)?;
-        same_bytes("book of the site", &book, &back)
+        for engine in [self.first, self.second] {
+            let mut back = vec![0; book_len(site.n)];
+            let number = engine.write_book(&plant.site, &mut back);
+            same("write of the site", &0, &number)?;
+            same_bytes("book of the site", &book, &back)?;
+        }
+        Ok(())
     }
 }
 
