@@ -8,8 +8,14 @@ ghost use Rattle.machine.specs.Plant.{each-boom, booms-up, booms-down, booms-cl
 fn each(kind: u8, test: [bool; 4]) -> bool
     ensures { λ r. ⌜ r ≡ each-boom kind (λ b. getD test b false) ⌝ }
 {
-    let n = crate::boom_count(kind);
-    ((n <= 0) | test[0]) & ((n <= 1) | test[1]) & ((n <= 2) | test[2]) & ((n <= 3) | test[3])
+    if kind <= 1 {
+        return true;
+    }
+    let right = test[0] & test[1];
+    if kind == 4 {
+        return right & test[2] & test[3];
+    }
+    right
 }
 
 // Every boom is reported up.

@@ -52,6 +52,11 @@ numbered c countdown phase timer out = record {
 with-numbers : (c : Crossing) {countdown phase timer out : ℕ} → c .countdown ≡ countdown → c .phase ≡ phase → c .timer ≡ timer → c .out ≡ out → numbered c countdown phase timer out ≡ c
 with-numbers c d p t o = rw (← d, ← p, ← t, ← o)
 
+-- where neither the countdown nor the timer runs, a tick leaves the crossing to settle as it is
+pub still-ticks : (s : Entry) (c : Crossing) → c .countdown ≡ 0 → c .timer ≡ 0 → Tracks c → tick s c ≡ c
+unfolding tick phase-ticked timer-ticked
+still-ticks s c d t z = simp (d, t, tab-getD 4 (c .calling) 0 (z .calling), tab-getD 4 (c .waiting) 0 (z .waiting)) (with-numbers c d refl t refl)
+
 module _ (s : Entry) (c : Crossing) (h : NoCrossing c) where
   past-reason : reason c ≡ false
   unfolding reason
@@ -61,16 +66,12 @@ module _ (s : Entry) (c : Crossing) (h : NoCrossing c) where
   past-numbers : numbered c 0 0 0 0 ≡ c
   past-numbers = with-numbers c (h .countdown) (h .phase) (h .timer) (h .out)
 
-  past-ticks : Tracks c → tick s c ≡ c
-  unfolding tick phase-ticked timer-ticked
-  past-ticks z = simp (h .countdown, h .phase, h .timer, h .out, tab-getD 4 (c .calling) 0 (z .calling), tab-getD 4 (c .waiting) 0 (z .waiting)) past-numbers
-
   past-settles : s .kind ≡ 0 → settle s 1 c ≡ c
   unfolding settle phase-settled timer-settled out-settled booms-up
   past-settles none = simp (past-reason, none, h .countdown, h .phase, h .timer, h .out) past-numbers
 
   pub past-stays : s .kind ≡ 0 → Tracks c → settle s 1 (tick s c) ≡ c
-  past-stays none z = rw (past-ticks z) (past-settles none)
+  past-stays none z = rw (still-ticks s c (h .countdown) (h .timer) z) (past-settles none)
 
   pub past-written : bit (releases c) (total c) ≡ 0
   past-written = rw (h .countdown)

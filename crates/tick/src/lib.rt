@@ -107,11 +107,19 @@ fn written(c: Crossing) -> u32
     0
 }
 
-// One crossing's tick: it runs down and settles.
+// One crossing's tick: it runs down and settles. Mostly neither countdown nor timer runs.
 pub fn tick(s: Entry, c: Crossing) -> Ticked
     ensures { λ r. ⌜ r ≡ ticked-crossing s c ⌝ }
     ensures { λ r. ⌜ r .written ≤ 2040 ⌝ }
 {
+    let still = (c.countdown == 0) & (c.timer == 0);
+    if still {
+        let crossing = settle::settle(s, true, c);
+        return Ticked {
+            crossing,
+            written: 0,
+        };
+    }
     let off = written(c);
     let crossing = settle::settle(s, true, run_down(s, c));
     Ticked {
