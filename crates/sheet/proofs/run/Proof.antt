@@ -2,7 +2,8 @@ use mathlib.Core.Path.{_≡_, sym, _∙_, ap}
 use native.Mathlib.Omega.{arith}
 use Rattle.machine.specs.Panel.{panel}
 use Rattle.machine.proofs.Ranges.{plant-reads}
-use Rattle.sheet.proofs.Calls.{sheet-reads, number-spoilt, number-sheet, number-frame, number-taken, run-refused, run-taken, ran-site}
+use Rattle.reader.proofs.Numbers.{sheet-reads}
+use Rattle.sheet.proofs.Calls.{number-spoilt, number-sheet, number-frame, number-taken, run-refused, run-taken, ran-site}
 use borrow.Author.Needs.{needs}
 use Rattle.sheet.proofs.run.Statement.{statement}
 use Rattle.sheet.proofs.run.Tie as tie
@@ -26,7 +27,7 @@ size-requires c κs =
     let ok = sym (k .before .before .before .before .before .in-range .ensures) ∙ k .before .before .before .before .if1 .taken in
     let own = sym (k .before .before .before .number .ensures) ∙ k .before .before .if2 .taken in
     let h = sheet-reads (a .args .sheet .now) own in
-    h .some
+    h .0
 
 play-requires : tie.Need-play-requires
 play-requires c κs =
@@ -36,7 +37,7 @@ play-requires c κs =
     let own = sym (k .before .before .before .number .ensures) ∙ k .before .before .if2 .taken in
     let h = sheet-reads (a .args .sheet .now) own in
     let m = c .size .ensures .0 in
-    (ok, m, rw m (h .size), rw m (h .whole))
+    (ok, rw m (h .1))
 
 fill-requires : tie.Need-fill-requires
 fill-requires c κs =
