@@ -1,22 +1,20 @@
 -- The number of a run, case by case, and what the run then returns.
-use mathlib.Core.Path.{_≡_, refl, sym, _∙_, ap}
-use mathlib.Core.Bool.{Bool, true, false, cond, not}
+use mathlib.Core.Path.{_≡_, refl, _∙_}
+use mathlib.Core.Bool.{true, false, not}
 use mathlib.Core.List.{List}
-use Prim.Native.Nat.{ℕ, zero, suc, _+_, _*_, _≤_, _<_}
-use native.Mathlib.Omega.{arith}
-use lib.Dec.{eqb, ltb}
+use Prim.Native.Nat.{ℕ, zero, suc, _*_}
+use lib.Dec.{eqb}
 use lib.ListN.{length}
-use borrow.Author.Tests.{eqb-true, eqb-false, eq-eqb, ne-eqb, ltb-false, not-false}
+use borrow.Author.Tests.{eqb-true, eqb-false, eq-eqb, ne-eqb}
 use Rattle.machine.specs.declared.Plant.{Plant}
 use Rattle.machine.specs.declared.Event.{Event}
-use Rattle.machine.specs.declared.Run.{Run}
 use Rattle.machine.specs.Common.{refuse}
 use Rattle.machine.specs.Range.{in-range}
 use Rattle.machine.specs.Events.{number}
 use Rattle.machine.specs.Step.{apply, step}
 use Rattle.machine.specs.Panel.{panel}
-use Rattle.machine.specs.Sheet.{sheet-size, sheet-limit, sheet-event, sheet-number, run-number, counted, ran, run, run-panel}
-use Rattle.machine.proofs.Tools.{by-test, passed}
+use Rattle.machine.specs.Sheet.{sheet-size, sheet-event, sheet-number, run-number, counted, ran, run, run-panel}
+use Rattle.machine.proofs.Tools.{by-test}
 use Rattle.machine.proofs.Taken.{taken-answer, refused-answer}
 use Rattle.reader.proofs.Numbers.{sheet-passes, sheet-refuses}
 

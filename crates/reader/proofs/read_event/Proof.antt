@@ -1,4 +1,3 @@
-use mathlib.Core.Path.{refl}
 use Rattle.machine.specs.Sheet.{sheet-event}
 use borrow.Author.Needs.{needs}
 use Rattle.reader.proofs.read_event.Statement.{statement}

@@ -13,8 +13,6 @@ use Rattle.plant.proofs.Laws.{unread}
 use Rattle.verdict.specs.Cases.{verdict}
 use Rattle.event.proofs.Steps.{eight-crossings}
 use Rattle.sheet.proofs.Runs.{Played, played-none, taken, played-refused, played-tick, own-place, own-room-at, played-own}
-use borrow.Author.Tests.{le-ltb}
-use Rattle.machine.specs.Sheet.{ran}
 use borrow.Author.Needs.{needs}
 use Rattle.sheet.proofs.play.Statement.{statement}
 use Rattle.sheet.proofs.play.Tie as tie

@@ -1,4 +1,4 @@
-use mathlib.Core.Path.{_≡_, sym, _∙_, ap}
+use mathlib.Core.Path.{sym, _∙_, ap}
 use native.Mathlib.Omega.{arith}
 use Rattle.machine.specs.Panel.{panel}
 use Rattle.machine.proofs.Ranges.{plant-reads}
@@ -24,7 +24,6 @@ size-requires : tie.Need-size-requires
 size-requires c κs =
     let k = c .before in
     let a = k .before .before .before .before .before .before .before .before in
-    let ok = sym (k .before .before .before .before .before .in-range .ensures) ∙ k .before .before .before .before .if1 .taken in
     let own = sym (k .before .before .before .number .ensures) ∙ k .before .before .if2 .taken in
     let h = sheet-reads (a .args .sheet .now) own in
     h .0
@@ -44,8 +43,6 @@ fill-requires c κs =
     let k = c .before .before .before .before .before in
     let a = k .before .before .before .before .before .before .before .before in
     let ok = sym (k .before .before .before .before .before .in-range .ensures) ∙ k .before .before .before .before .if1 .taken in
-    let own = sym (k .before .before .before .number .ensures) ∙ k .before .before .if2 .taken in
-    let h = sheet-reads (a .args .sheet .now) own in
     let n = ap (λ x. x .site .n) (ap (λ x. x .plant) (c .before .before .play .ensures)) ∙ ap (λ x. x .n) (ran-site (a .args .p) _ _) in
     (rw n (plant-reads _ ok .count), rw n (c .before .before .before .before .if3 .taken))
 
@@ -58,7 +55,6 @@ returns c =
     let a = k .before .before .before .before .before .before .before .before in
     let ok = sym (k .before .before .before .before .before .in-range .ensures) ∙ k .before .before .before .before .if1 .taken in
     let own = sym (k .before .before .before .number .ensures) ∙ k .before .before .if2 .taken in
-    let h = sheet-reads (a .args .sheet .now) own in
     let t = run-taken (a .args .p) (a .args .sheet .now) (a .args .panel .now) (number-taken _ _ _ ok own (c .before .before .before .before .before .before .before .if3 .taken)) in
     let r = rw (c .before .before .before .before .before .before .size .ensures .0) at (c .before .before .before .before .before .play .ensures) in
     (r ∙ t .0, c .before .before .fill .ensures ∙ ap (λ x. panel (x .plant)) r ∙ t .1)
@@ -72,7 +68,6 @@ returns-2 c =
     let a = k .before .before .before .before .before .before .before .before in
     let ok = sym (k .before .before .before .before .before .in-range .ensures) ∙ k .before .before .before .before .if1 .taken in
     let own = sym (k .before .before .before .number .ensures) ∙ k .before .before .if2 .taken in
-    let h = sheet-reads (a .args .sheet .now) own in
     let t = run-refused (a .args .p) (a .args .sheet .now) (a .args .panel .now) 14 (number-frame _ _ _ ok own (c .before .if3 .left)) (λ z. omega arith) in
     (c .refused .ensures ∙ t .0, t .1)
 
