@@ -70,7 +70,7 @@ impl<'a> SheetReader<'a> {
     // The event at place k.
     pub fn event_at(self, k: usize) -> Event
         requires { ⌜ Whole (now (self .sheet)) (self .size) × (k < self .size) ⌝ }
-        ensures { λ r. ⌜ r ≡ sheet-event (now (self .entry .sheet)) k ⌝ }
+        ensures { λ e. ⌜ e ≡ sheet-event (now (self .entry .sheet)) k ⌝ }
     {
         read_event(self.sheet, self.size, k)
     }
@@ -79,7 +79,7 @@ impl<'a> SheetReader<'a> {
 // Event k of a whole sheet of m events, by its reader. For other crates alone.
 pub fn event_at(sheet: &[u8], m: usize, k: usize) -> Event
     requires { ⌜ Whole (now sheet) m × (k < m) ⌝ }
-    ensures { λ r. ⌜ r ≡ sheet-event (now (sheet .entry)) k ⌝ }
+    ensures { λ e. ⌜ e ≡ sheet-event (now (sheet .entry)) k ⌝ }
 {
     SheetReader::new(sheet, m).event_at(k)
 }
