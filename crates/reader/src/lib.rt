@@ -1,5 +1,5 @@
 // The event sheet: its size, its number, and a reader that hands out the event at a place (document 01, "Event sheet and
-// program"). The checker covers no function over the reader's struct, so those over it are few, and proved by hand.
+// program"). The checker covers no function with a struct that holds a slice, so the last three here are proved by hand.
 use machine::Event;
 ghost use mathlib.Core.Path.{_≡_};
 ghost use Prim.Native.Nat.{_≤_, _<_};
@@ -61,13 +61,14 @@ pub struct SheetReader<'a> {
 }
 
 impl<'a> SheetReader<'a> {
+    // The reader of a sheet of that size.
     pub fn new(sheet: &'a [u8], size: usize) -> SheetReader<'a>
         ensures { λ r. ⌜ (r .sheet ≡ sheet .entry) × (r .size ≡ size) ⌝ }
     {
         SheetReader { sheet, size }
     }
 
-    // The event at place k.
+    // The event at place k of a whole sheet. For other crates alone.
     pub fn event_at(self, k: usize) -> Event
         requires { ⌜ Whole (now (self .sheet)) (self .size) × (k < self .size) ⌝ }
         ensures { λ e. ⌜ e ≡ sheet-event (now (self .entry .sheet)) k ⌝ }
@@ -76,7 +77,8 @@ impl<'a> SheetReader<'a> {
     }
 }
 
-// Event k of a whole sheet of m events, by its reader. For other crates alone.
+// Event k of a whole sheet of m events, by its reader: the parameters are plain, so callers need no proof by hand. For other
+// crates alone.
 pub fn event_at(sheet: &[u8], m: usize, k: usize) -> Event
     requires { ⌜ Whole (now sheet) m × (k < m) ⌝ }
     ensures { λ e. ⌜ e ≡ sheet-event (now (sheet .entry)) k ⌝ }

@@ -33,7 +33,8 @@ loop-holds c =
 event-at-requires : tie.Need-event-at-requires Inv-loop μ-loop
 event-at-requires c κs =
     let a = c .before .before .before .before .before in
-    (a .pre .1, c .loop-test .taken)
+    let b = c .loop-test .taken in
+    (a .pre .1, omega arith)
 
 cast-j : tie.Need-cast-j Inv-loop μ-loop
 cast-j c = search needs
