@@ -1,9 +1,8 @@
 -- The number of a report, case by case, and what is then reported.
 use mathlib.Core.Path.{_≡_, refl, sym, _∙_, ap, subst}
-use mathlib.Core.Bool.{Bool, true, false, cond, not}
 use mathlib.Core.List.{List, _++_}
-use Prim.Native.Nat.{ℕ, zero, suc, _+_, _*_, _≤_, _<_}
-use lib.Dec.{eqb, ltb}
+use Prim.Native.Nat.{ℕ, zero, suc, _*_, _≤_, _<_}
+use lib.Dec.{ltb}
 use native.Mathlib.Omega.{arith}
 use lib.ListN.{length, take, drop, length-take}
 use borrow.Author.Tests.{eq-eqb, ne-eqb, lt-ltb, le-ltb}
@@ -14,8 +13,9 @@ use Rattle.machine.specs.declared.Run.{Run}
 use Rattle.machine.specs.Common.{refuse}
 use Rattle.machine.specs.Panel.{panel}
 use Rattle.machine.specs.SiteBook.{read, read-number}
-use Rattle.machine.specs.Sheet.{sheet-size, sheet-limit, sheet-event, sheet-number, ran, counted, run, run-panel}
+use Rattle.machine.specs.Sheet.{sheet-size, sheet-event, sheet-number, ran, counted, run, run-panel}
 use Rattle.machine.proofs.Laws.{fresh-in-range}
+use Rattle.reader.proofs.Numbers.{sheet-passes, sheet-refuses}
 use Rattle.sheet.proofs.Calls.{number-taken, run-taken}
 use Rattle.report.specs.Report.{size, run-of, report-number, refused, counts, report, drawn, report-panel}
 
@@ -28,31 +28,21 @@ unfolding ran counted
 ran-number p f zero = refl
 ran-number p f (suc k) = refl
 
--- a sheet's own number comes before what follows
-chain : (a b d : Bool) (rest : ℕ) → refuse a 4 (refuse b 2 (refuse d 4 rest)) ≡ cond (eqb (refuse a 4 (refuse b 2 (refuse d 4 0))) 0) rest (refuse a 4 (refuse b 2 (refuse d 4 0)))
-chain true b d rest = refl
-chain false true d rest = refl
-chain false false true rest = refl
-chain false false false rest = refl
-
-sheet-first : (s : List ℕ) (rest : ℕ) → sheet-number s rest ≡ cond (eqb (sheet-number s 0) 0) rest (sheet-number s 0)
-sheet-first s rest = chain (ltb (length s) 2) (ltb sheet-limit (sheet-size s)) (not (eqb (length s) (2 + 4 * sheet-size s))) rest
-
 module _ (site sheet lent : List ℕ) where
   -- The number ------------------------------------------------------------------------------------------------------------------------
   pub number-site : (read-number site ≡ 0 → ⊥) → report-number site sheet lent ≡ read-number site
   unfolding report-number
   number-site q = rw (ne-eqb _ _ q)
 
-  number-rest : read-number site ≡ 0 → report-number site sheet lent ≡ cond (eqb (sheet-number sheet 0) 0) (refuse (ltb (length lent) (16 * size site)) 14 0) (sheet-number sheet 0)
+  number-read : read-number site ≡ 0 → report-number site sheet lent ≡ sheet-number sheet (refuse (ltb (length lent) (16 * size site)) 14 0)
   unfolding report-number
-  number-rest q = rw (eq-eqb _ _ q) (sheet-first sheet _)
+  number-read q = rw (eq-eqb _ _ q)
 
   pub number-sheet : read-number site ≡ 0 → (sheet-number sheet 0 ≡ 0 → ⊥) → report-number site sheet lent ≡ sheet-number sheet 0
-  number-sheet q s = number-rest q ∙ ap (λ t. cond t (refuse (ltb (length lent) (16 * size site)) 14 0) (sheet-number sheet 0)) (ne-eqb _ _ s)
+  number-sheet q s = number-read q ∙ sheet-refuses sheet _ s
 
   number-fits : read-number site ≡ 0 → sheet-number sheet 0 ≡ 0 → report-number site sheet lent ≡ refuse (ltb (length lent) (16 * size site)) 14 0
-  number-fits q s = number-rest q ∙ ap (λ t. cond t (refuse (ltb (length lent) (16 * size site)) 14 0) (sheet-number sheet 0)) (eq-eqb _ _ s)
+  number-fits q s = number-read q ∙ sheet-passes sheet _ s
 
   pub number-short : read-number site ≡ 0 → sheet-number sheet 0 ≡ 0 → length lent < 16 * size site → report-number site sheet lent ≡ 14
   number-short q s l = number-fits q s ∙ rw (lt-ltb _ _ l)

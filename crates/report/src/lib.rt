@@ -33,7 +33,7 @@ pub fn report(site: &[u8], sheet: &[u8], panel: &mut [u8]) -> Outcome
     let reading = book::read(site);
     let found = reading.number;
     if found == 0 {
-        let own = sheet::number(sheet);
+        let own = reader::number(sheet);
         if own == 0 {
             let plant = reading.plant;
             let settings = plant.site;

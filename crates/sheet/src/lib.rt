@@ -1,62 +1,12 @@
 // The sheet run: a plant, a sheet of events and a lent panel (document 01, "Event sheet and program").
-use machine::Event;
 use machine::Plant;
 use machine::Run;
 use verdict::Verdict;
 ghost use mathlib.Core.Bool.{true};
 ghost use mathlib.Core.Path.{_≡_};
-ghost use Prim.Native.Nat.{_+_, _*_, _≤_, _<_};
-ghost use lib.ListN.{length};
-ghost use Rattle.machine.specs.Common.{refuse};
 ghost use Rattle.machine.specs.Range.{in-range};
-ghost use Rattle.machine.specs.Sheet.{sheet-size, sheet-event, sheet-number, ran, run, run-panel};
-
-// The longest sheet, in events.
-pub const LIMIT: usize = 4096;
-
-fn wide(x: u8) -> usize
-    ensures { λ r. ⌜ r ≡ x ⌝ }
-    ensures { λ r. ⌜ r ≤ 255 ⌝ }
-{
-    x as usize
-}
-
-// The size that a sheet of at least two bytes states. For other crates alone.
-pub fn size(sheet: &[u8]) -> usize
-    requires { ⌜ 2 ≤ length (now sheet) ⌝ }
-    ensures { λ r. ⌜ r ≡ sheet-size (now (sheet .entry)) ⌝ }
-    ensures { λ r. ⌜ r < 65536 ⌝ }
-{
-    wide(sheet[0]) + 256 * wide(sheet[1])
-}
-
-// A sheet's own number: 4, 2, 4, or 0.
-pub fn number(sheet: &[u8]) -> u8
-    ensures { λ r. ⌜ r ≡ sheet-number (now (sheet .entry)) 0 ⌝ }
-{
-    if sheet.len() < 2 {
-        return 4;
-    }
-    let m = size(sheet);
-    if LIMIT < m {
-        return 2;
-    }
-    if sheet.len() == 2 + 4 * m { 0 } else { 4 }
-}
-
-// Event k of a whole sheet of m events. For other crates alone.
-pub fn event_at(sheet: &[u8], m: usize, k: usize) -> Event
-    requires { ⌜ (m ≡ sheet-size (now sheet)) × (m ≤ 4096) × (k < m) × (length (now sheet) ≡ 2 + 4 * m) ⌝ }
-    ensures { λ r. ⌜ r ≡ sheet-event (now (sheet .entry)) k ⌝ }
-{
-    let triple = 2 + m + 3 * k;
-    Event {
-        code: sheet[2 + k],
-        crossing: sheet[triple],
-        place: sheet[triple + 1],
-        value: sheet[triple + 2],
-    }
-}
+ghost use Rattle.machine.specs.Sheet.{sheet-event, ran, run, run-panel};
+ghost use Rattle.reader.specs.Whole.{Whole};
 
 // Refused: the number, the plant as it was given and zero counts.
 fn refused(p: Plant, number: u8) -> Run
@@ -73,7 +23,7 @@ fn refused(p: Plant, number: u8) -> Run
 
 // Each event of a whole sheet in turn, from a plant in range. Inside this crate alone.
 fn play(p: Plant, sheet: &[u8], m: usize) -> Run
-    requires { ⌜ (in-range p ≡ true) × (m ≡ sheet-size (now sheet)) × (m ≤ 4096) × (length (now sheet) ≡ 2 + 4 * m) ⌝ }
+    requires { ⌜ (in-range p ≡ true) × Whole (now sheet) m ⌝ }
     ensures { λ r. ⌜ r ≡ ran p (sheet-event (now (sheet .entry))) m ⌝ }
 {
     let site = p.site;
@@ -84,7 +34,7 @@ fn play(p: Plant, sheet: &[u8], m: usize) -> Run
     let mut written: u32 = 0;
     let mut k: usize = 0;
     while k < m {
-        let e = event_at(sheet, m, k);
+        let e = reader::event_at(sheet, m, k);
         let j = (e.crossing % 8) as usize;
         let s = site.entries[j];
         let c = crossings[j];
@@ -126,12 +76,12 @@ pub fn run(p: Plant, sheet: &[u8], panel: &mut [u8]) -> Run
     ensures bytes { λ _. ⌜ now (panel .exit) ≡ run-panel p (now (sheet .entry)) (now (panel .entry)) ⌝ }
 {
     if plant::in_range(p) {
-        let own = number(sheet);
+        let own = reader::number(sheet);
         if own == 0 {
             let site = p.site;
             let n = site.n as usize;
             if panel.len() == 16 * n {
-                let r = play(p, sheet, size(sheet));
+                let r = play(p, sheet, reader::size(sheet));
                 let last = r.plant;
                 panel::fill(last, panel);
                 return r;

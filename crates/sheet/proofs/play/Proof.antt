@@ -13,8 +13,6 @@ use Rattle.plant.proofs.Laws.{unread}
 use Rattle.verdict.specs.Cases.{verdict}
 use Rattle.event.proofs.Steps.{eight-crossings}
 use Rattle.sheet.proofs.Runs.{Played, played-none, taken, played-refused, played-tick, own-place, own-room-at, played-own}
-use borrow.Author.Tests.{le-ltb}
-use Rattle.machine.specs.Sheet.{ran}
 use borrow.Author.Needs.{needs}
 use Rattle.sheet.proofs.play.Statement.{statement}
 use Rattle.sheet.proofs.play.Tie as tie
@@ -35,7 +33,8 @@ loop-holds c =
 event-at-requires : tie.Need-event-at-requires Inv-loop μ-loop
 event-at-requires c κs =
     let a = c .before .before .before .before .before in
-    (a .pre .1, a .pre .2, c .loop-test .taken, a .pre .3)
+    let b = c .loop-test .taken in
+    (a .pre .1, omega arith)
 
 cast-j : tie.Need-cast-j Inv-loop μ-loop
 cast-j c = search needs
@@ -68,7 +67,7 @@ add-refused : tie.Need-add-refused Inv-loop μ-loop
 add-refused c =
     let j = c .before .before in
     let n = j .before .before .before .before .before .before .loop .inv .1 .counts in
-    let m = j .before .before .before .before .before .before .before .before .before .before .pre .2 in
+    let m = j .before .before .before .before .before .before .before .before .before .before .pre .1 .1 in
     let b = j .before .before .before .before .before .loop-test .taken in
     omega arith
 
@@ -90,7 +89,7 @@ add-taken : tie.Need-add-taken Inv-loop μ-loop
 add-taken c =
     let j = c .before .before .before in
     let n = j .before .before .before .before .before .before .loop .inv .1 .counts in
-    let m = j .before .before .before .before .before .before .before .before .before .before .pre .2 in
+    let m = j .before .before .before .before .before .before .before .before .before .before .pre .1 .1 in
     let b = j .before .before .before .before .before .loop-test .taken in
     omega arith
 
@@ -101,7 +100,7 @@ add-written : tie.Need-add-written Inv-loop μ-loop
 add-written c =
     let j = c .before .before .before .before .before .before .before .before in
     let n = j .before .before .before .before .before .before .loop .inv .1 .bound in
-    let m = j .before .before .before .before .before .before .before .before .before .before .pre .2 in
+    let m = j .before .before .before .before .before .before .before .before .before .before .pre .1 .1 in
     let b = j .before .before .before .before .before .loop-test .taken in
     let w = c .before .before .tick-all .ensures .1 in
     omega arith

@@ -1,8 +1,7 @@
-use mathlib.Core.Path.{refl}
 use Rattle.machine.specs.Sheet.{sheet-event}
 use borrow.Author.Needs.{needs}
-use Rattle.sheet.proofs.event_at.Statement.{statement}
-use Rattle.sheet.proofs.event_at.Tie as tie
+use Rattle.reader.proofs.read_event.Statement.{statement}
+use Rattle.reader.proofs.read_event.Tie as tie
 
 add-triple : tie.Need-add-triple
 add-triple c = search needs
@@ -36,10 +35,10 @@ shared-slice-read-t15 c = search needs
 
 returns : tie.Need-returns
 unfolding sheet-event
-returns c = rw (← c .before .before .before .before .pre .0)
+returns c = rw (← c .before .before .before .before .pre .0 .0)
 
-pub event-at-spec : {M : Type 1} → statement M
-event-at-spec =
+pub read-event-spec : {M : Type 1} → statement M
+read-event-spec =
     tie.close
     (tie.spec
     add-triple

@@ -1,7 +1,7 @@
 use borrow.Author.Tests.{eq-eqb, le-ltb, lt-ltb, ne-eqb}
 use borrow.Author.Needs.{needs}
-use Rattle.sheet.proofs.number.Statement.{statement}
-use Rattle.sheet.proofs.number.Tie as tie
+use Rattle.reader.proofs.number.Statement.{statement}
+use Rattle.reader.proofs.number.Tie as tie
 
 returns : tie.Need-returns
 returns c = simp (lt-ltb _ _ (c .if1 .taken))

@@ -1,0 +1,9 @@
+-- A whole sheet: what its reader asks of the slice and the size beside it.
+use mathlib.Core.Path.{_≡_}
+use mathlib.Core.List.{List}
+use Prim.Native.Nat.{ℕ, _+_, _*_, _≤_}
+use lib.ListN.{length}
+use Rattle.machine.specs.Sheet.{sheet-size, sheet-limit}
+
+abbrev pub Whole : List ℕ → ℕ → Type 0
+Whole s m = (m ≡ sheet-size s) × (m ≤ sheet-limit) × (length s ≡ 2 + 4 * m)
