@@ -1,19 +1,18 @@
 // Tests over the booms that a kind has (document 01, "What the plant holds").
-ghost use mathlib.Core.Bool.{false};
 ghost use mathlib.Core.Path.{_≡_};
 ghost use lib.ListN.{getD};
-ghost use Rattle.machine.specs.Plant.{each-boom, booms-up, booms-down, booms-closed};
+ghost use Rattle.machine.specs.Plant.{booms-up, booms-down, booms-closed};
+ghost use Rattle.kind.specs.Sides.{on-sides};
 
-// The test holds of each boom that the kind has.
-fn each(kind: u8, test: [bool; 4]) -> bool
-    ensures { λ r. ⌜ r ≡ each-boom kind (λ b. getD test b false) ⌝ }
+// A test that holds of each boom that the kind has: right of the road, where there are any, and left for kind 4.
+fn each(kind: u8, right: bool, left: bool) -> bool
+    ensures { λ r. ⌜ r ≡ on-sides kind right left ⌝ }
 {
     if kind <= 1 {
         return true;
     }
-    let right = test[0] & test[1];
     if kind == 4 {
-        return right & test[2] & test[3];
+        return right & left;
     }
     right
 }
@@ -24,7 +23,8 @@ pub fn up(kind: u8, booms: [u8; 4]) -> bool
 {
     each(
         kind,
-        [booms[0] == 0, booms[1] == 0, booms[2] == 0, booms[3] == 0],
+        (booms[0] == 0) & (booms[1] == 0),
+        (booms[2] == 0) & (booms[3] == 0),
     )
 }
 
@@ -34,7 +34,8 @@ pub fn down(kind: u8, booms: [u8; 4]) -> bool
 {
     each(
         kind,
-        [booms[0] == 2, booms[1] == 2, booms[2] == 2, booms[3] == 2],
+        (booms[0] == 2) & (booms[1] == 2),
+        (booms[2] == 2) & (booms[3] == 2),
     )
 }
 
@@ -43,10 +44,7 @@ pub fn closed(kind: u8, booms: [u8; 4]) -> bool
     ensures { λ r. ⌜ r ≡ booms-closed kind (λ b. getD booms b 0) ⌝ }
 {
     if kind == 2 {
-        return each(
-            kind,
-            [booms[0] != 0, booms[1] != 0, booms[2] != 0, booms[3] != 0],
-        );
+        return (booms[0] != 0) & (booms[1] != 0);
     }
     down(kind, booms)
 }

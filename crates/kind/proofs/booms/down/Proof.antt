@@ -1,28 +1,38 @@
+use mathlib.Core.Path.{_∙_}
+use lib.Dec.{eqb}
+use lib.ListN.{getD}
+use Rattle.kind.proofs.Laws.{sides}
 use Rattle.machine.specs.Plant.{booms-down}
 use borrow.Author.Needs.{needs}
 use Rattle.kind.proofs.booms.down.Statement.{statement}
 use Rattle.kind.proofs.booms.down.Tie as tie
 
-array-read-t6 : tie.Need-array-read-t6
-array-read-t6 c = search needs
+array-read-each : tie.Need-array-read-each
+array-read-each c = search needs
 
-array-read-t10 : tie.Need-array-read-t10
-array-read-t10 c = search needs
+array-read-each-2 : tie.Need-array-read-each-2
+array-read-each-2 c = search needs
 
-array-read-t14 : tie.Need-array-read-t14
-array-read-t14 c = search needs
+array-read-each-3 : tie.Need-array-read-each-3
+array-read-each-3 c = search needs
 
-array-read-t18 : tie.Need-array-read-t18
-array-read-t18 c = search needs
+array-read-each-4 : tie.Need-array-read-each-4
+array-read-each-4 c = search needs
 
 each-requires : tie.Need-each-requires
 each-requires c κs = search needs
 
 returns : tie.Need-returns
 unfolding booms-down
-returns c = simp (c .each .ensures)
+returns c = let a = c .before .args in c .each .ensures ∙ sides (a .kind) (λ b. eqb (getD (a .t2) b 0) 2)
 
 pub down-spec : {M : Type 1} → statement M
 down-spec =
     tie.close
-    (tie.spec array-read-t6 array-read-t10 array-read-t14 array-read-t18 each-requires returns)
+    (tie.spec
+    array-read-each
+    array-read-each-2
+    array-read-each-3
+    array-read-each-4
+    each-requires
+    returns)
