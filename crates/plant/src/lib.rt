@@ -7,7 +7,7 @@ ghost use mathlib.Core.Bool.{_&&_, cond, not};
 ghost use mathlib.Core.Path.{_≡_};
 ghost use Prim.Native.Nat.{_+_, _^_, _<_};
 ghost use lib.Dec.{eqb, leb, ltb};
-ghost use Rattle.machine.specs.Common.{all-below};
+ghost use Rattle.machine.specs.Common.{all-below, refuse};
 ghost use Rattle.machine.specs.Plant.{boom, boom-count, dependent, lamp};
 ghost use Rattle.machine.specs.Range.{
   boom-in,
@@ -73,6 +73,13 @@ pub fn count_in(n: u8) -> bool
     ensures { λ r. ⌜ r ≡ count-in n ⌝ }
 {
     (1 <= n) & (n <= 8)
+}
+
+// The number where the test holds, otherwise what the later tests give.
+pub fn refuse(test: bool, number: u8, rest: u8) -> u8
+    ensures { λ r. ⌜ r ≡ refuse test number rest ⌝ }
+{
+    if test { number } else { rest }
 }
 
 // One crossing --------------------------------------------------------------------------------------------------------------------
