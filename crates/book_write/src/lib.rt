@@ -12,7 +12,7 @@ ghost use Prim.Native.Nat.{_+_, _*_, _≤_};
 ghost use lib.Dec.{ltb};
 ghost use lib.ListN.{length};
 ghost use lib.Seq.{sets};
-ghost use Rattle.machine.specs.Common.{all-below, high, low};
+ghost use Rattle.machine.specs.Common.{all-below, concat-below, high, low};
 ghost use Rattle.machine.specs.Range.{entry-in, entry-zero};
 ghost use Rattle.machine.specs.SiteBook.{
   book,
@@ -24,7 +24,6 @@ ghost use Rattle.machine.specs.SiteBook.{
   write-number,
   written-book,
 };
-ghost use Rattle.book_write.specs.Rows.{with-rows};
 
 // The numbers that settings can be refused with.
 const BAD_COUNT: u8 = 2;
@@ -113,7 +112,7 @@ fn put_second(out: &mut [u8], at: usize, x: Entry)
 // The first array. Inside this crate alone: at most eight crossings, and the output has a book's length.
 fn put_firsts(s: Site, out: &mut [u8])
     requires { ⌜ (s .n ≤ 8) × (length (now out) ≡ book-length (s .n)) ⌝ }
-    ensures { λ _. ⌜ now (out .exit) ≡ with-rows (now (out .entry)) 1 3 (λ i. first-part (setting s i)) (s .n) ⌝ }
+    ensures { λ _. ⌜ now (out .exit) ≡ sets (now (out .entry)) 1 (concat-below (s .n) (λ i. first-part (setting s i))) ⌝ }
 {
     let n = s.n as usize;
     let mut i: usize = 0;
@@ -127,7 +126,7 @@ fn put_firsts(s: Site, out: &mut [u8])
 // The second array. Inside this crate alone: at most eight crossings, and the output has a book's length.
 fn put_seconds(s: Site, out: &mut [u8])
     requires { ⌜ (s .n ≤ 8) × (length (now out) ≡ book-length (s .n)) ⌝ }
-    ensures { λ _. ⌜ now (out .exit) ≡ with-rows (now (out .entry)) (1 + 3 * s .n) 4 (λ i. second-part (setting s i)) (s .n) ⌝ }
+    ensures { λ _. ⌜ now (out .exit) ≡ sets (now (out .entry)) (1 + 3 * s .n) (concat-below (s .n) (λ i. second-part (setting s i))) ⌝ }
 {
     let n = s.n as usize;
     let mut i: usize = 0;

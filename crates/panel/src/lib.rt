@@ -3,11 +3,10 @@
 use machine::Crossing;
 use machine::Entry;
 use machine::Plant;
-ghost use mathlib.Core.Bool.{true};
 ghost use mathlib.Core.Path.{_≡_};
 ghost use Prim.Native.Nat.{_+_, _*_, _≤_};
 ghost use lib.ListN.{length};
-ghost use lib.Seq.{paste};
+ghost use lib.Seq.{sets};
 ghost use Rattle.machine.specs.Plant.{normal, secured};
 ghost use Rattle.machine.specs.Panel.{row, panel, draw-number, drawn};
 
@@ -68,7 +67,7 @@ pub fn row(beat: u8, s: Entry, c: Crossing) -> [u8; 16]
 // Puts a row into the output from a place on. Inside this crate alone: it fits.
 fn put(out: &mut [u8], at: usize, row: [u8; 16])
     requires { ⌜ at + 16 ≤ length (now out) ⌝ }
-    ensures { λ _. ⌜ now (out .exit) ≡ paste (now (out .entry)) at row 16 ⌝ }
+    ensures { λ _. ⌜ now (out .exit) ≡ sets (now (out .entry)) at row ⌝ }
 {
     let mut k: usize = 0;
     while k < 16 {

@@ -1,10 +1,12 @@
-use mathlib.Core.Path.{refl, _∙_, ap}
+use mathlib.Core.Path.{_≡_, refl, sym, _∙_, ap}
 use mathlib.Core.List.{List}
 use Prim.Native.Nat.{ℕ, _+_, _*_}
-use lib.ListN.{length-set}
+use lib.ListN.{length, set, length-set}
+use lib.Seq.{sets}
+use Rattle.machine.specs.Common.{concat-below}
 use Rattle.machine.specs.SiteBook.{book, first-part, second-part, setting}
-use Rattle.book_write.specs.Rows.{with-rows}
-use Rattle.book_write.proofs.Rows.{filled}
+use Rattle.machine.proofs.Tools.{length-concat, sets-append, sets-whole}
+use Rattle.machine.proofs.Laws.{book-bytes}
 use borrow.Author.Needs.{needs}
 use Rattle.book_write.proofs.put_book.Statement.{statement}
 use Rattle.book_write.proofs.put_book.Tie as tie
@@ -24,12 +26,17 @@ same-length c = c .before .before .put-seconds .kept .1 .0 ∙ c .before .before
 returns : tie.Need-returns
 unfolding book first-part second-part
 returns c =
-    let s = c .before .before .before .before .before .before .before .before .before .args .s in
-    let f : ℕ → List ℕ = λ j. first-part (setting s j) in
-    let g : ℕ → List ℕ = λ j. second-part (setting s j) in
+    let a = c .before .before .before .before .before .before .before .before .before in
+    let s = a .args .s in
+    let f = concat-below (s .n) (λ j. first-part (setting s j)) in
+    let g = concat-below (s .n) (λ j. second-part (setting s j)) in
+    let o = set (a .args .out .now) 0 (s .n) in
+    let size : length f ≡ 3 * s .n = length-concat 3 (λ j. first-part (setting s j)) (λ j. refl) (s .n) in
     c .before .before .put-seconds .ensures
-    ∙ ap {B = List ℕ} (λ l. with-rows l (1 + 3 * s .n) 4 g (s .n)) (c .before .before .before .before .before .before .put-firsts .ensures)
-    ∙ filled (s .n) (s .n) f g (λ j. refl) (λ j. refl) (c .before .before .before .before .before .before .before .before .before .args .out .now) (c .before .before .before .before .before .before .before .before .before .pre .1)
+    ∙ ap {B = List ℕ} (λ l. sets l (1 + 3 * s .n) g) (c .before .before .before .before .before .before .put-firsts .ensures)
+    ∙ ap {B = List ℕ} (λ k. sets (sets o 1 f) (1 + k) g) (sym size)
+    ∙ sets-append f g o 1
+    ∙ sets-whole (book s) (a .args .out .now) (a .pre .1 ∙ sym (book-bytes s))
 
 pub put-book-spec : {M : Type 1} → statement M
 put-book-spec =

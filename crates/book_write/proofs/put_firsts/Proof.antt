@@ -1,19 +1,17 @@
-use mathlib.Core.Path.{_≡_, refl, sym, _∙_, ap}
-use mathlib.Core.List.{List}
-use Prim.Native.Nat.{ℕ, _+_, _*_, _-_, _≤_}
+use mathlib.Core.Path.{_≡_, refl, _∙_}
+use Prim.Native.Nat.{_-_, _≤_}
 use native.Mathlib.Omega.{arith}
-use native.Mathlib.Numerals.{add-one}
 use lib.ListN.{length}
 use lib.Seq.{sets}
 use Rattle.machine.specs.SiteBook.{first-part, setting}
-use Rattle.book_write.specs.Rows.{with-rows}
-use Rattle.book_write.proofs.Rows.{no-rows, next-row}
+use Rattle.machine.specs.Common.{concat-below}
+use Rattle.machine.proofs.Tools.{next-row}
 use borrow.Author.Needs.{needs}
 use Rattle.book_write.proofs.put_firsts.Statement.{statement}
 use Rattle.book_write.proofs.put_firsts.Tie as tie
 
 abbrev Inv-loop : tie.InvT-loop
-Inv-loop out₀ s n i₀ out i = (i ≤ s .n) × ((out ≡ with-rows out₀ 1 3 (λ j. first-part (setting s j)) i) × (length out ≡ length out₀))
+Inv-loop out₀ s n i₀ out i = (i ≤ s .n) × ((out ≡ sets out₀ 1 (concat-below i (λ j. first-part (setting s j)))) × (length out ≡ length out₀))
 
 abbrev μ-loop : tie.MeasureT-loop
 μ-loop out₀ s n i₀ out i = s .n - i
@@ -22,10 +20,7 @@ cast-n : tie.Need-cast-n Inv-loop μ-loop
 cast-n c = search needs
 
 loop-holds : tie.Need-loop-holds Inv-loop μ-loop
-unfolding first-part
-loop-holds c =
-    let s = c .before .args .t1 in
-    (search needs, (sym (no-rows ((c .before .args .out .now)) 1 3 (λ j. first-part (setting s j)) (λ j. refl)), refl))
+loop-holds c = search needs
 
 mul-x : tie.Need-mul-x Inv-loop μ-loop
 mul-x c = search needs
@@ -51,17 +46,11 @@ loop-less c = search needs
 loop-again : tie.Need-loop-again Inv-loop μ-loop
 unfolding first-part
 loop-again c =
-    let s = c .before .before .before .before .before .before .before .before .args .t1 in
-    let o = (c .before .before .before .before .before .before .before .before .args .out .now) in
-    let i = c .before .before .before .before .before .before .loop .i in
-    let w = c .before .before .before .before .before .before .loop .inv in
-    let r = c .before .before .put-first in (
-      search needs,
-      (
-        rw add-one (r .ensures ∙ ap {B = List ℕ} (λ x. sets x (1 + 3 * i) (first-part (setting s i))) (w .1 .0) ∙ next-row o 1 3 (λ j. first-part (setting s j)) (λ j. refl) i (omega arith)),
-        r .kept .0 ∙ w .1 .1,
-      ),
-    )
+    let a = c .before .before .before .before .before .before .before .before .args in
+    let s = a .t1 in
+    let l = c .before .before .before .before .before .before .loop in
+    let r = c .before .before .put-first in
+    (search needs, (next-row 3 (λ j. first-part (setting s j)) (λ j. refl) (a .out .now) 1 (l .i) (l .inv .1 .0) (r .ensures), r .kept .0 ∙ l .inv .1 .1))
 
 same-length : tie.Need-same-length Inv-loop μ-loop
 same-length c = search needs
