@@ -1,8 +1,8 @@
 use native.Mathlib.Nat.{add-zero}
 use Rattle.machine.specs.Panel.{row, road, signal, distant, lit, bell, boom-lamps, right-down, left-down, released, releases-shown, status, holds}
 use borrow.Author.Needs.{needs}
-use Rattle.panel.proofs.row.Statement.{statement}
-use Rattle.panel.proofs.row.Tie as tie
+use Rattle.panel_row.proofs.row.Statement.{statement}
+use Rattle.panel_row.proofs.row.Tie as tie
 
 is-normal-requires : tie.Need-is-normal-requires
 is-normal-requires c κs = search needs
