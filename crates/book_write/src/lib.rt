@@ -2,10 +2,10 @@
 // Any settings and any output are taken; a refused write leaves every lent byte.
 use machine::Entry;
 use machine::Site;
-use plant::count_in;
-use plant::entry_in;
-use plant::entry_zero;
-use plant::refuse;
+use settings::count_in;
+use settings::entry_in;
+use settings::entry_zero;
+use settings::refuse;
 ghost use mathlib.Core.Bool.{cond};
 ghost use mathlib.Core.Path.{_≡_};
 ghost use Prim.Native.Nat.{_+_, _*_, _≤_};

@@ -1,6 +1,6 @@
 use borrow.Author.Tests.{eq-eqb, ne-eqb}
-use Rattle.plant.proofs.gap_in.Statement.{statement}
-use Rattle.plant.proofs.gap_in.Tie as tie
+use Rattle.settings.proofs.gap_in.Statement.{statement}
+use Rattle.settings.proofs.gap_in.Tie as tie
 
 returns : tie.Need-returns
 returns c = simp (eq-eqb _ _ (c .if1 .taken))

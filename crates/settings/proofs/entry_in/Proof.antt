@@ -1,8 +1,8 @@
 use Rattle.machine.specs.Range.{entry-in}
-use Rattle.plant.proofs.Laws.{and-assoc}
+use Rattle.settings.proofs.Laws.{and-assoc}
 use borrow.Author.Needs.{needs}
-use Rattle.plant.proofs.entry_in.Statement.{statement}
-use Rattle.plant.proofs.entry_in.Tie as tie
+use Rattle.settings.proofs.entry_in.Statement.{statement}
+use Rattle.settings.proofs.entry_in.Tie as tie
 
 tracks-in-requires : tie.Need-tracks-in-requires
 tracks-in-requires c κs = search needs

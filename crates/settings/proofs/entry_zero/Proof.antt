@@ -1,7 +1,7 @@
 use mathlib.Core.Path.{refl}
 use Rattle.machine.specs.Range.{entry-zero}
-use Rattle.plant.proofs.entry_zero.Statement.{statement}
-use Rattle.plant.proofs.entry_zero.Tie as tie
+use Rattle.settings.proofs.entry_zero.Statement.{statement}
+use Rattle.settings.proofs.entry_zero.Tie as tie
 
 returns : tie.Need-returns
 unfolding entry-zero

@@ -1,6 +1,6 @@
-use Rattle.plant.proofs.Laws.{outside}
-use Rattle.plant.proofs.tracks_in.Statement.{statement}
-use Rattle.plant.proofs.tracks_in.Tie as tie
+use Rattle.settings.proofs.Laws.{outside}
+use Rattle.settings.proofs.tracks_in.Statement.{statement}
+use Rattle.settings.proofs.tracks_in.Tie as tie
 
 returns : tie.Need-returns
 returns c = simp (c .match .keys1)
