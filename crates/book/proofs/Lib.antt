@@ -1,4 +1,3 @@
-pub mod Rows
+pub mod Parts
 pub mod Bytes
-pub mod Accepted
 pub mod RoundTrip

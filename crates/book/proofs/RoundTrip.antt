@@ -16,12 +16,12 @@ use Rattle.machine.specs.Plant.{no-entry, fresh-plant}
 use Rattle.machine.specs.Range.{entry-in, entry-zero, gap-in}
 use Rattle.machine.specs.SiteBook.{book, book-entry, book-length, book-site, book-size, first-part, no-site, read, read-number, second-part, setting, setting-in, write-number, written-book}
 use Rattle.machine.proofs.Tools.{by-test, and-both, all-below-intro, tab-same, tab-getD, length-concat, getD-concat}
-use Rattle.machine.proofs.Ranges.{entry-reads}
+use Rattle.machine.proofs.Ranges.{entry-reads, at-most-eight}
 use Rattle.machine.proofs.Laws.{BookIn, book-reads, read-plant, site-entry, book-bytes}
 use Rattle.book.specs.Copies.{copied, copy-number, reread}
-use Rattle.book.proofs.Rows.{concat-same, concat-parts, part-bytes}
+use Rattle.book.proofs.Parts.{concat-same, concat-parts, part-bytes}
 use Rattle.book.proofs.Bytes.{low-word, high-word, word-of}
-use Rattle.book.proofs.Accepted.{few, write-reads}
+use Rattle.book_write.proofs.Accepted.{write-reads}
 
 -- A book read and written ----------------------------------------------------------------------------------------------------------
 module _ (b : List ℕ) (bytes : (k : ℕ) → byte b k < 256) (q : read-number b ≡ 0) where
@@ -51,7 +51,7 @@ module _ (b : List ℕ) (bytes : (k : ℕ) → byte b k < 256) (q : read-number 
 
   setting-read : (i : ℕ) → i < book-size b → setting (book-site b) i ≡ book-entry b i
   setting-read i l =
-      let n = few (book-size b) (book-reads b q .count) in
+      let n = at-most-eight (book-size b) (book-reads b q .count) in
       site-entry b i (omega arith) ∙ rw (lt-ltb i (book-size b) l)
 
   book-back : book (book-site b) ≡ b
@@ -190,7 +190,7 @@ module _ (s : Site) where
     number-read : read-number (book s) ≡ 0
     number-read =
         let h = write-reads s lent q in
-        let m = few (s .n) (h .count) in
+        let m = at-most-eight (s .n) (h .count) in
         let k : length (book s) ≡ book-length (s .n) = book-bytes s in
         passes (book s) (record {
           some = λ z. omega arith;

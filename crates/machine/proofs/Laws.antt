@@ -16,7 +16,7 @@ use Rattle.machine.specs.Panel.{row, panel}
 use Rattle.machine.specs.SiteBook.{book-size, book-length, book-entry, book-site, read-number, read, setting, first-part, second-part, book}
 use Rattle.machine.proofs.Tools.{by-test, by-cond, below4, and-both, passed, all-below-at, getD-tab, length-concat, getD-concat}
 use Rattle.machine.proofs.Taken.{taken-answer, refused-answer}
-use Rattle.machine.proofs.Ranges.{Zero, TrackIn, TrackAt, PhaseIn, opened, CrossingIn, NoCrossing, no-crossing-reads, PlantIn, plant-tests}
+use Rattle.machine.proofs.Ranges.{Zero, TrackIn, TrackAt, PhaseIn, opened, CrossingIn, NoCrossing, no-crossing-reads, at-most-eight, PlantIn, plant-tests}
 
 -- A fresh plant is in range --------------------------------------------------------------------------------------------------------
 fresh-used : (s : Entry) → CrossingIn s (fresh-crossing true)
@@ -91,7 +91,7 @@ pub fresh-in-range : (b : List ℕ) → read-number b ≡ 0 → in-range (read b
 unfolding book-site entry-zero
 fresh-in-range b q =
     let h = book-reads b q in
-    let few : book-size b ≤ 8 = leb-true _ _ (and-both (leb 1 (book-size b)) (leb (book-size b) 8) (h .count) .1) in
+    let few = at-most-eight (book-size b) (h .count) in
     rw (read-plant b q) (plant-tests (fresh-plant (book-site b)) (fresh-plant-in (book-site b) (h .count)
     (λ i l. rw (site-entry b i (omega arith), lt-ltb i (book-size b) l) (h .entry-test i l))
     (λ i l m. rw (site-entry b i l, le-ltb i (book-size b) m) refl)))

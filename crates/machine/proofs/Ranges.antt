@@ -46,6 +46,9 @@ entry-reads s q =
 pub some-gap : {s : Entry} → EntryIn s → eqb (s .kind) 4 ≡ true → 1 ≤ s .gap
 some-gap {s} h four = leb-true _ _ (and-both (leb 1 (s .gap)) (leb (s .gap) 90) (rw four at (h .gap)) .0)
 
+pub at-most-eight : (n : ℕ) → count-in n ≡ true → n ≤ 8
+at-most-eight n q = leb-true n 8 (and-both (leb 1 n) (leb n 8) q .1)
+
 -- One track: its number t and what it holds ----------------------------------------------------------------------------------------
 pub record Zero (k w : ℕ) (r o : Bool) : Type 0 where
   pub calling : k ≡ 0

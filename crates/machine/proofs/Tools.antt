@@ -1,13 +1,14 @@
 -- Small laws that every proof cites: picks, tests, tables, sums, and the chain of refusals.
 use mathlib.Core.Path.{_≡_, refl, sym, _∙_, ap, subst}
 use mathlib.Core.Bool.{Bool, true, false, cond, not, _&&_, _||_, false≢true, true≢false}
-use mathlib.Core.List.{List, [], _∷_, _++_}
+use mathlib.Core.List.{List, [], _∷_, _++_, append-nil}
 use Prim.Native.Nat.{ℕ, zero, suc, _+_, _*_, _≤_, _<_}
 use native.Mathlib.Omega.{arith}
 use native.Mathlib.Nat.{mul-le-mul-left, mul-suc}
+use native.Mathlib.Numerals.{add-one}
 use lib.Dec.{eqb}
-use lib.ListN.{getD, length, set, length-set, length-append, List·getD-append}
-use lib.Seq.{ext-getD, getD-set-same, getD-set-other, getD-append-add}
+use lib.ListN.{getD, length, set, length-set, length-append, List·getD-append, drop-of-length-le}
+use lib.Seq.{sets, sets-eq, ext-getD, getD-set-same, getD-set-other, getD-append-add}
 use borrow.Author.Tests.{eqb-true, eqb-false}
 use Rattle.machine.specs.Common.{tab, all-below, any-below, sum-below, sum4, concat-below, bit, refuse}
 
@@ -132,11 +133,24 @@ module _ {A : Type 0} where
       (λ q. let z : i ≡ t = eqb-true _ _ q in subst (λ j. v j ≡ getD (set l i (v i)) j d) z (sym (getD-set-same l i (v i) d (omega arith))))
       (λ q. sym (getD-set-other l i t (v i) d (λ z. eqb-false i t q (sym z)))))
 
+-- Stores, one after the other -----------------------------------------------------------------------------------------------------
+pub sets-append : (a b l : List ℕ) (i : ℕ) → sets (sets l i a) (i + length a) b ≡ sets l i (a ++ b)
+sets-append [] b l i = let z : i + 0 ≡ i = omega arith in rw z
+sets-append (x ∷ a) b l i = let e : i + suc (length a) ≡ suc i + length a = omega arith in rw e (sets-append a b (set l i x) (suc i))
+
+-- a list stored over another of its length
+pub sets-whole : (l o : List ℕ) → length o ≡ length l → sets o 0 l ≡ l
+sets-whole l o e = sets-eq l o 0 (omega arith) ∙ rw (drop-of-length-le o {i = 0 + length l} (omega arith)) (append-nil l)
+
 -- Rows of equal length, one after the other ----------------------------------------------------------------------------------------
 module _ (w : ℕ) (f : ℕ → List ℕ) (len : (j : ℕ) → length (f j) ≡ w) where
   pub length-concat : (n : ℕ) → length (concat-below n f) ≡ w * n
   length-concat zero = omega arith
   length-concat (suc n) = let ih = length-concat n in let l = len n in simp length-append (omega arith)
+
+  -- one more row, stored after the first n
+  pub next-row : (l : List ℕ) (at n : ℕ) {out after : List ℕ} → out ≡ sets l at (concat-below n f) → after ≡ sets out (at + w * n) (f n) → after ≡ sets l at (concat-below (n + 1) f)
+  next-row l at n p q = q ∙ rw (p, add-one n, ← length-concat n) (sets-append (concat-below n f) (f n) l at)
 
   -- byte k of row i
   pub getD-concat : (n i k : ℕ) → i < n → k < w → getD (concat-below n f) (w * i + k) 0 ≡ getD (f i) k 0

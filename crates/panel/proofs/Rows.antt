@@ -1,32 +1,17 @@
--- Rows of one length, put into an output one after the other.
-use mathlib.Core.Path.{_≡_, refl, sym, _∙_, ap}
-use mathlib.Core.List.{List, [], _++_, append-assoc}
-use Prim.Native.Nat.{ℕ, suc, _+_, _*_, _≤_}
+-- A row, stored byte by byte, and the rows of a plant.
+use mathlib.Core.Path.{_≡_, refl, sym}
+use mathlib.Core.List.{List}
+use Prim.Native.Nat.{ℕ, _+_, _≤_}
 use native.Mathlib.Omega.{arith}
-use native.Mathlib.Nat.{mul-suc}
-use lib.ListN.{length, take, drop}
-use lib.Seq.{paste, take-at, take-all, drop-append-add, drop-drop}
-use Rattle.machine.specs.Common.{concat-below}
+use lib.ListN.{length}
+use lib.Seq.{paste, sets, sets-eq, take-all}
 use Rattle.machine.specs.declared.Plant.{Plant}
 use Rattle.machine.specs.Plant.{entry, crossing}
 use Rattle.machine.specs.Panel.{row}
-use Rattle.machine.proofs.Tools.{length-concat}
 
-module _ (w : ℕ) (f : ℕ → List ℕ) (len : (j : ℕ) → length (f j) ≡ w) where
-  -- the output l after the first n rows
-  abbrev pub after-rows : ℕ → List ℕ → List ℕ
-  after-rows n l = concat-below n f ++ drop (w * n) l
-
-  pub next-row : (n : ℕ) (l : List ℕ) → paste (after-rows n l) (w * n) (f n) w ≡ after-rows (suc n) l
-  next-row n l =
-      let size = length-concat w f len n in
-      let whole = len n in
-      rw (take-at (concat-below n f) (drop (w * n) l) (w * n) size, take-all w (f n) (omega arith))
-      (ap (λ r. (concat-below n f ++ f n) ++ r)
-      (ap (λ k. drop (k + w) (concat-below n f ++ drop (w * n) l)) (sym size)
-      ∙ drop-append-add (concat-below n f) (drop (w * n) l) w
-      ∙ drop-drop w (w * n) l
-      ∙ ap (λ k. drop k l) (sym (mul-suc w n))))
+-- a list of n, copied whole
+pub paste-whole : (d s : List ℕ) (at n : ℕ) → length s ≡ n → at + n ≤ length d → paste d at s n ≡ sets d at s
+paste-whole d s at n e h = rw (← e, take-all (length s) s (omega arith)) (sym (sets-eq s d at (omega arith)))
 
 -- the rows of a plant
 abbrev pub row-at : Plant → ℕ → List ℕ

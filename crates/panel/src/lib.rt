@@ -1,74 +1,15 @@
-// The panel: sixteen bytes per crossing, drawn into a lent output (document 01, "Panel").
-
-use machine::Crossing;
-use machine::Entry;
+// The panel: a row for each crossing, drawn into a lent output (document 01, "Panel").
 use machine::Plant;
-ghost use mathlib.Core.Bool.{true};
 ghost use mathlib.Core.Path.{_≡_};
 ghost use Prim.Native.Nat.{_+_, _*_, _≤_};
 ghost use lib.ListN.{length};
-ghost use lib.Seq.{paste};
-ghost use Rattle.machine.specs.Plant.{normal, secured};
-ghost use Rattle.machine.specs.Panel.{row, panel, draw-number, drawn};
-
-// Normal position: open, and every boom last reported up.
-pub fn is_normal(s: Entry, c: Crossing) -> bool
-    ensures { λ r. ⌜ r ≡ normal s c ⌝ }
-{
-    let booms = c.booms;
-    (c.phase == 0) & kind::booms::up(s.kind, booms)
-}
-
-// Secured: all ordered down, the road's red whole, and the booms as the kind demands.
-pub fn is_secured(s: Entry, c: Crossing) -> bool
-    ensures { λ r. ⌜ r ≡ secured s c ⌝ }
-{
-    let booms = c.booms;
-    (c.phase == 3) & c.lamps[1] & kind::booms::closed(s.kind, booms)
-}
-
-// The sixteen bytes of one crossing.
-pub fn row(beat: u8, s: Entry, c: Crossing) -> [u8; 16]
-    ensures { λ r. ⌜ r ≡ row beat s c ⌝ }
-{
-    let normal = is_normal(s, c);
-    let secured = is_secured(s, c);
-    let booms = c.booms;
-    let calling = panel_bytes::sum(c.calling);
-    let waiting = panel_bytes::sum(c.waiting);
-    let has_booms = 2 <= s.kind;
-    let road = panel_bytes::road(normal, c.lamps[0], c.lamps[1]);
-    let signal = panel_bytes::signal(secured, c.lamps[3], c.lamps[2]);
-    let on = panel_bytes::rhythm(beat, c.lamps[4], normal);
-    [
-        road,
-        panel_bytes::flags(
-            (0 < road) & on,
-            !normal & has_booms & on,
-            (0 < signal) & on,
-            on,
-        ),
-        panel_bytes::bit(!normal & !(has_booms & kind::booms::down(s.kind, booms))),
-        panel_bytes::bit(!normal & has_booms),
-        panel_bytes::bit(has_booms & ((c.phase == 2) | (c.phase == 3))),
-        panel_bytes::bit((s.kind == 4) & (c.phase == 3)),
-        signal,
-        panel_bytes::distant(signal),
-        panel_bytes::released(s, c.route, secured),
-        panel_bytes::flags(normal, secured, Crossing::OVERDUE < c.out, false),
-        c.phase,
-        panel_bytes::flags(c.kiosk, c.operator, false, false),
-        panel_bytes::low(calling),
-        panel_bytes::high(calling),
-        panel_bytes::low(waiting),
-        panel_bytes::high(waiting),
-    ]
-}
+ghost use lib.Seq.{sets};
+ghost use Rattle.machine.specs.Panel.{panel, draw-number, drawn};
 
 // Puts a row into the output from a place on. Inside this crate alone: it fits.
 fn put(out: &mut [u8], at: usize, row: [u8; 16])
     requires { ⌜ at + 16 ≤ length (now out) ⌝ }
-    ensures { λ _. ⌜ now (out .exit) ≡ paste (now (out .entry)) at row 16 ⌝ }
+    ensures { λ _. ⌜ now (out .exit) ≡ sets (now (out .entry)) at row ⌝ }
 {
     let mut k: usize = 0;
     while k < 16 {
@@ -88,7 +29,7 @@ pub fn fill(p: Plant, out: &mut [u8])
     while i < n {
         let s = site.entries[i];
         let c = p.crossings[i];
-        put(out, 16 * i, row(p.beat, s, c));
+        put(out, 16 * i, panel_row::row(p.beat, s, c));
         i += 1;
     }
 }

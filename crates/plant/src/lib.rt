@@ -1,79 +1,18 @@
-// The range check: every held number of a plant, settings included, is in its range (number 15), and the settings of one crossing (number 3).
-// Each test equals its definition in the machine's Range and Plant; no function has a `requires`.
+// The range check: every held number of a plant, settings included, is in its range (number 15).
+// Each test equals its definition in the machine's Range and Plant; the public one takes any plant.
 use machine::Crossing;
 use machine::Entry;
 use machine::Plant;
-ghost use mathlib.Core.Bool.{_&&_, cond, not};
+use settings::count_in;
+use settings::entry_in;
+use settings::entry_zero;
+ghost use mathlib.Core.Bool.{cond, not};
 ghost use mathlib.Core.Path.{_≡_};
-ghost use Prim.Native.Nat.{_+_, _^_, _<_};
-ghost use lib.Dec.{eqb, leb, ltb};
+ghost use Prim.Native.Nat.{_+_, _<_};
+ghost use lib.Dec.{eqb};
 ghost use Rattle.machine.specs.Common.{all-below};
-ghost use Rattle.machine.specs.Plant.{boom, boom-count, dependent, lamp};
-ghost use Rattle.machine.specs.Range.{
-  boom-in,
-  count-in,
-  crossing-in,
-  crossing-zero,
-  entry-in,
-  entry-zero,
-  gap-in,
-  in-range,
-  phase-in,
-  place-in,
-  track-in,
-  track-zero,
-};
-
-// Settings ------------------------------------------------------------------------------------------------------------------------
-
-// Tracks 1 to 4, and no bit of the mask at or above that number.
-fn tracks_in(tracks: u8, mask: u8) -> bool
-    ensures { λ r. ⌜ r ≡ (leb 1 tracks && leb tracks 4 && ltb mask (2 ^ tracks)) ⌝ }
-{
-    match tracks {
-        1 => mask < 2,
-        2 => mask < 4,
-        3 => mask < 8,
-        4 => mask < 16,
-        _ => false,
-    }
-}
-
-// G: 1 to 90 for kind 4, otherwise 0.
-fn gap_in(kind: u8, g: u16) -> bool
-    ensures { λ r. ⌜ r ≡ gap-in kind g ⌝ }
-{
-    if kind == 4 {
-        (1 <= g) & (g <= 90)
-    } else {
-        g == 0
-    }
-}
-
-// The settings of a crossing are in their ranges.
-pub fn entry_in(s: Entry) -> bool
-    ensures { λ r. ⌜ r ≡ entry-in s ⌝ }
-{
-    (1 <= s.kind)
-        & (s.kind <= 4)
-        & tracks_in(s.tracks, s.mask)
-        & ((1 <= s.pre) & (s.pre <= 180))
-        & gap_in(s.kind, s.gap)
-}
-
-// An entry past the last crossing: all zero.
-pub fn entry_zero(s: Entry) -> bool
-    ensures { λ r. ⌜ r ≡ entry-zero s ⌝ }
-{
-    (s.kind == 0) & (s.tracks == 0) & (s.mask == 0) & (s.pre == 0) & (s.gap == 0)
-}
-
-// n is 1 to 8.
-pub fn count_in(n: u8) -> bool
-    ensures { λ r. ⌜ r ≡ count-in n ⌝ }
-{
-    (1 <= n) & (n <= 8)
-}
+ghost use Rattle.machine.specs.Plant.{boom, lamp};
+ghost use Rattle.machine.specs.Range.{boom-in, crossing-in, crossing-zero, in-range, phase-in, place-in, track-in, track-zero};
 
 // One crossing --------------------------------------------------------------------------------------------------------------------
 

@@ -30,7 +30,7 @@ pub fn report(site: &[u8], sheet: &[u8], panel: &mut [u8]) -> Outcome
     ensures answer { λ r. ⌜ r ≡ report (now (site .entry)) (now (sheet .entry)) (now (panel .entry)) ⌝ }
     ensures bytes { λ _. ⌜ now (panel .exit) ≡ report-panel (now (site .entry)) (now (sheet .entry)) (now (panel .entry)) ⌝ }
 {
-    let reading = book::read(site);
+    let reading = book_read::read(site);
     let found = reading.number;
     if found == 0 {
         let own = reader::number(sheet);

@@ -17,7 +17,7 @@ ghost use Rattle.machine.specs.Step.{step};
 pub extern "C" fn wilzhoram_read(book: &[u8]) -> Reading
     ensures { λ r. ⌜ r ≡ read (now (book .entry)) ⌝ }
 {
-    book::read(book)
+    book_read::read(book)
 }
 
 // Settings written as a site book into a lent output.
@@ -26,7 +26,7 @@ pub extern "C" fn wilzhoram_write(site: Site, book: &mut [u8]) -> u8
     ensures number { λ r. ⌜ r ≡ write-number site (now (book .entry)) ⌝ }
     ensures bytes { λ _. ⌜ now (book .exit) ≡ written-book site (now (book .entry)) ⌝ }
 {
-    book::write(site, book)
+    book_write::write(site, book)
 }
 
 // One event: its number, the trains written off and the plant after it.

@@ -2,7 +2,7 @@ use mathlib.Core.Path.{_≡_, sym, _∙_, ap}
 use lib.ListN.{length, length-map}
 use Rattle.machine.specs.declared.Reading.{Reading}
 use Rattle.machine.specs.SiteBook.{read, write-number}
-use Rattle.book.proofs.Accepted.{written-taken}
+use Rattle.book_write.proofs.Accepted.{written-taken}
 use Rattle.book.proofs.RoundTrip.{reading-back, reread-refused}
 use borrow.Author.Needs.{needs}
 use Rattle.book.proofs.reread.Statement.{statement}

@@ -1,20 +1,21 @@
 use Rattle.machine.specs.Panel.{panel}
 use Rattle.plant.proofs.Laws.{crossing-read}
-use Prim.Native.Nat.{ℕ, _≤_, _<_, _-_, _+_, _*_}
-use mathlib.Core.Path.{_≡_, refl, _∙_}
-use mathlib.Core.List.{List, _++_, append-nil}
+use Prim.Native.Nat.{_≤_, _<_, _-_}
+use mathlib.Core.Path.{_≡_, sym, _∙_}
 use native.Mathlib.Omega.{arith}
-use native.Mathlib.Numerals.{add-one}
-use lib.ListN.{length, length-map, drop, drop-of-length-le}
+use native.Mathlib.Nat.{zero-add}
+use lib.ListN.{length, length-map}
+use lib.Seq.{sets}
 use Rattle.machine.specs.Common.{concat-below}
-use Rattle.panel.proofs.Rows.{row-at, row-length, next-row}
-use borrow.Author.Tests.{le-ltb}
+use Rattle.panel.proofs.Rows.{row-at, row-length}
+use Rattle.machine.proofs.Tools.{next-row, sets-whole}
+use Rattle.machine.proofs.Laws.{panel-length}
 use borrow.Author.Needs.{needs}
 use Rattle.panel.proofs.fill.Statement.{statement}
 use Rattle.panel.proofs.fill.Tie as tie
 
 abbrev Inv-loop : tie.InvT-loop
-Inv-loop out₀ p site n i₀ out i = (i ≤ n) × ((out ≡ concat-below i (row-at p) ++ drop (16 * i) out₀) × (length out ≡ length out₀))
+Inv-loop out₀ p site n i₀ out i = (i ≤ n) × ((out ≡ sets out₀ 0 (concat-below i (row-at p))) × (length out ≡ length out₀))
 
 abbrev μ-loop : tie.MeasureT-loop
 μ-loop out₀ p site n i₀ out i = n - i
@@ -63,7 +64,7 @@ loop-again c =
     let few : l .i < length (p .crossings) = omega (arith, a .pre) in (
       omega arith,
       (
-        r .ensures ∙ rw (w .1 .0, c .before .before .before .row .ensures, crossing-read (p .crossings) (l .i) few, add-one (l .i)) (next-row 16 (row-at p) (row-length p) (l .i) (a .args .out .now)),
+        next-row 16 (row-at p) (row-length p) (a .args .out .now) 0 (l .i) (w .1 .0) (r .ensures ∙ rw (c .before .before .before .row .ensures, crossing-read (p .crossings) (l .i) few, zero-add)),
         r .kept .0 ∙ w .1 .1,
       ),
     )
@@ -78,7 +79,7 @@ returns c =
     let p = a .args .t1 in
     let l = c .before .loop in
     let end : l .i ≡ p .site .n = omega arith in
-    l .inv .1 .0 ∙ rw (end, drop-of-length-le (a .args .out .now) {i = 16 * p .site .n} (omega (arith, a .pre))) (append-nil (concat-below (p .site .n) (row-at p)))
+    l .inv .1 .0 ∙ rw end (sets-whole (panel p) (a .args .out .now) (a .pre .1 ∙ sym (panel-length p)))
 
 pub fill-spec : {M : Type 1} → statement M
 fill-spec =

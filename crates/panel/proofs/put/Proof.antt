@@ -1,10 +1,10 @@
-use Prim.Native.Nat.{_≤_, _-_, _+_}
+use Prim.Native.Nat.{_≤_, _-_}
 use mathlib.Core.Path.{_≡_, refl, _∙_}
 use native.Mathlib.Omega.{arith}
 use native.Mathlib.Numerals.{add-one}
 use lib.ListN.{length, length-set}
 use lib.Seq.{paste, paste-zero, paste-suc}
-use borrow.Author.Tests.{le-ltb}
+use Rattle.panel.proofs.Rows.{paste-whole}
 use borrow.Author.Needs.{needs}
 use Rattle.panel.proofs.put.Statement.{statement}
 use Rattle.panel.proofs.put.Tie as tie
@@ -46,9 +46,11 @@ same-length c = search needs
 
 returns : tie.Need-returns Inv-loop μ-loop
 returns c =
+    let a = c .before .before .args in
     let w = c .before .loop .inv in
     let h : c .before .loop .k ≡ 16 = omega arith in
-    w .1 .0 ∙ simp h
+    let size : length (a .t3) ≡ 16 = search needs in
+    w .1 .0 ∙ simp h (paste-whole (a .out .now) (a .t3) (a .at) 16 size (c .before .before .pre))
 
 pub put-spec : {M : Type 1} → statement M
 put-spec =

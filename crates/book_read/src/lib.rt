@@ -1,0 +1,135 @@
+// The site book read: its bytes to a fresh plant. Any bytes are taken.
+use machine::Entry;
+use machine::Plant;
+use machine::Reading;
+use machine::Site;
+use settings::count_in;
+use settings::entry_in;
+use settings::refuse;
+ghost use mathlib.Core.Path.{_≡_};
+ghost use Prim.Native.Nat.{_+_, _*_, _≤_, _<_};
+ghost use lib.ListN.{length};
+ghost use Rattle.machine.specs.Common.{all-below};
+ghost use Rattle.machine.specs.Plant.{no-entry};
+ghost use Rattle.machine.specs.Range.{entry-in};
+ghost use Rattle.machine.specs.SiteBook.{book-entry, book-length, book-site, book-size, no-site, read, read-number};
+
+// The numbers that a book can be refused with.
+const BAD_LENGTH: u8 = 1;
+
+const BAD_COUNT: u8 = 2;
+
+const BAD_SETTING: u8 = 3;
+
+// A number of 16 bits, low byte first.
+fn word(lower: u8, upper: u8) -> u16
+    ensures { λ r. ⌜ r ≡ lower + 256 * upper ⌝ }
+{
+    (lower as u16) + 256 * (upper as u16)
+}
+
+// Entry i of a book. Inside this crate alone: the book has its length and i is below its size.
+fn entry_at(b: &[u8], i: usize) -> Entry
+    requires { ⌜ (length (now b) ≡ book-length (book-size (now b))) × (i < book-size (now b)) ⌝ }
+    ensures { λ r. ⌜ r ≡ book-entry (now (b .entry)) i ⌝ }
+{
+    let n = b[0] as usize;
+    let first = 1 + 3 * i;
+    let second = 1 + 3 * n + 4 * i;
+    let third = second + 2;
+    Entry {
+        kind: b[first],
+        tracks: b[first + 1],
+        mask: b[first + 2],
+        pre: word(b[second], b[second + 1]),
+        gap: word(b[third], b[third + 1]),
+    }
+}
+
+// Every entry of a book is in its range. Inside this crate alone: the book has its length.
+fn entries_in(b: &[u8]) -> bool
+    requires { ⌜ length (now b) ≡ book-length (book-size (now b)) ⌝ }
+    ensures { λ r. ⌜ r ≡ all-below (book-size (now (b .entry))) (λ i. entry-in (book-entry (now (b .entry)) i)) ⌝ }
+{
+    let n = b[0] as usize;
+    let mut ok = true;
+    let mut i: usize = 0;
+    while i < n {
+        let x = entry_at(b, i);
+        ok = ok & entry_in(x);
+        i += 1;
+    }
+    ok
+}
+
+// The number of a book: 1 if empty, 2, 1, 3; 0 where it is taken. Entries are looked at in a book of the right length alone.
+fn read_number(b: &[u8]) -> u8
+    ensures { λ r. ⌜ r ≡ read-number (now (b .entry)) ⌝ }
+{
+    if b.len() == 0 {
+        return BAD_LENGTH;
+    }
+    let size = b[0];
+    let n = size as usize;
+    let counted = count_in(size);
+    if b.len() == 1 + 7 * n {
+        let ranged = entries_in(b);
+        return refuse(!counted, BAD_COUNT, refuse(!ranged, BAD_SETTING, 0));
+    }
+    refuse(!counted, BAD_COUNT, BAD_LENGTH)
+}
+
+// An all-zero entry.
+fn no_entry() -> Entry
+    ensures { λ r. ⌜ r ≡ no-entry ⌝ }
+{
+    Entry {
+        kind: 0,
+        tracks: 0,
+        mask: 0,
+        pre: 0,
+        gap: 0,
+    }
+}
+
+// An all-zero site.
+pub fn no_site() -> Site
+    ensures { λ r. ⌜ r ≡ no-site ⌝ }
+{
+    let x = no_entry();
+    let entries = [x; 8];
+    Site { n: 0, entries }
+}
+
+// The settings of a book. Inside this crate alone: the book has its length and at most eight crossings.
+fn book_site(b: &[u8]) -> Site
+    requires { ⌜ (length (now b) ≡ book-length (book-size (now b))) × (book-size (now b) ≤ 8) ⌝ }
+    ensures { λ r. ⌜ r ≡ book-site (now (b .entry)) ⌝ }
+{
+    let size = b[0];
+    let n = size as usize;
+    let x = no_entry();
+    let mut entries = [x; 8];
+    let mut i: usize = 0;
+    while i < n {
+        let y = entry_at(b, i);
+        entries[i] = y;
+        i += 1;
+    }
+    Site { n: size, entries }
+}
+
+// A book read: its number and its fresh plant or, refused, the fresh plant of an all-zero site.
+pub fn read(b: &[u8]) -> Reading
+    ensures { λ r. ⌜ r ≡ read (now (b .entry)) ⌝ }
+{
+    let number = read_number(b);
+    if number == 0 {
+        let site = book_site(b);
+        let plant = Plant::fresh(site);
+        return Reading { number: 0, plant };
+    }
+    let site = no_site();
+    let plant = Plant::fresh(site);
+    Reading { number, plant }
+}

@@ -1,0 +1,161 @@
+// The site book written: settings to its bytes, in a lent output.
+// Any settings and any output are taken; a refused write leaves every lent byte.
+use machine::Entry;
+use machine::Site;
+use settings::count_in;
+use settings::entry_in;
+use settings::entry_zero;
+use settings::refuse;
+ghost use mathlib.Core.Bool.{cond};
+ghost use mathlib.Core.Path.{_≡_};
+ghost use Prim.Native.Nat.{_+_, _*_, _≤_};
+ghost use lib.Dec.{ltb};
+ghost use lib.ListN.{length};
+ghost use lib.Seq.{sets};
+ghost use Rattle.machine.specs.Common.{all-below, concat-below, high, low};
+ghost use Rattle.machine.specs.Range.{entry-in, entry-zero};
+ghost use Rattle.machine.specs.SiteBook.{
+  book,
+  book-length,
+  first-part,
+  second-part,
+  setting,
+  setting-in,
+  write-number,
+  written-book,
+};
+
+// The numbers that settings can be refused with.
+const BAD_COUNT: u8 = 2;
+
+const BAD_SETTING: u8 = 3;
+
+const BAD_OUTPUT: u8 = 14;
+
+// The entry at place i of n is in its range; past n it is zero.
+fn setting_in(n: u8, i: usize, x: Entry) -> bool
+    ensures { λ r. ⌜ r ≡ cond (ltb i n) (entry-in x) (entry-zero x) ⌝ }
+{
+    let count = n as usize;
+    if i < count {
+        entry_in(x)
+    } else {
+        entry_zero(x)
+    }
+}
+
+// Every entry of the settings is in its range.
+fn settings_in(s: Site) -> bool
+    ensures { λ r. ⌜ r ≡ all-below 8 (setting-in s) ⌝ }
+{
+    let n = s.n;
+    let mut ok = true;
+    let mut i: usize = 0;
+    while i < 8 {
+        let x = s.entries[i];
+        ok = ok & setting_in(n, i, x);
+        i += 1;
+    }
+    ok
+}
+
+// The number of settings and an output: 2, 3, 14; 0 where they are taken.
+fn write_number(s: Site, out: &[u8]) -> u8
+    ensures { λ r. ⌜ r ≡ write-number s (now (out .entry)) ⌝ }
+{
+    let n = s.n as usize;
+    let counted = count_in(s.n);
+    let ranged = settings_in(s);
+    let fits = out.len() == 1 + 7 * n;
+    refuse(
+        !counted,
+        BAD_COUNT,
+        refuse(!ranged, BAD_SETTING, refuse(!fits, BAD_OUTPUT, 0)),
+    )
+}
+
+// The low byte of a number of 16 bits.
+fn low(x: u16) -> u8
+    ensures { λ r. ⌜ r ≡ low x ⌝ }
+{
+    (x % 256) as u8
+}
+
+// Its high byte.
+fn high(x: u16) -> u8
+    ensures { λ r. ⌜ r ≡ high x ⌝ }
+{
+    (x / 256 % 256) as u8
+}
+
+// The three bytes of an entry's first part, from a place on. Inside this crate alone: the output has room for them.
+fn put_first(out: &mut [u8], at: usize, x: Entry)
+    requires { ⌜ at + 3 ≤ length (now out) ⌝ }
+    ensures { λ _. ⌜ now (out .exit) ≡ sets (now (out .entry)) at (first-part x) ⌝ }
+{
+    out[at] = x.kind;
+    out[at + 1] = x.tracks;
+    out[at + 2] = x.mask;
+}
+
+// The four bytes of an entry's second part, from a place on. Inside this crate alone: the output has room for them.
+fn put_second(out: &mut [u8], at: usize, x: Entry)
+    requires { ⌜ at + 4 ≤ length (now out) ⌝ }
+    ensures { λ _. ⌜ now (out .exit) ≡ sets (now (out .entry)) at (second-part x) ⌝ }
+{
+    out[at] = low(x.pre);
+    out[at + 1] = high(x.pre);
+    out[at + 2] = low(x.gap);
+    out[at + 3] = high(x.gap);
+}
+
+// The first array. Inside this crate alone: at most eight crossings, and the output has a book's length.
+fn put_firsts(s: Site, out: &mut [u8])
+    requires { ⌜ (s .n ≤ 8) × (length (now out) ≡ book-length (s .n)) ⌝ }
+    ensures { λ _. ⌜ now (out .exit) ≡ sets (now (out .entry)) 1 (concat-below (s .n) (λ i. first-part (setting s i))) ⌝ }
+{
+    let n = s.n as usize;
+    let mut i: usize = 0;
+    while i < n {
+        let x = s.entries[i];
+        put_first(out, 1 + 3 * i, x);
+        i += 1;
+    }
+}
+
+// The second array. Inside this crate alone: at most eight crossings, and the output has a book's length.
+fn put_seconds(s: Site, out: &mut [u8])
+    requires { ⌜ (s .n ≤ 8) × (length (now out) ≡ book-length (s .n)) ⌝ }
+    ensures { λ _. ⌜ now (out .exit) ≡ sets (now (out .entry)) (1 + 3 * s .n) (concat-below (s .n) (λ i. second-part (setting s i))) ⌝ }
+{
+    let n = s.n as usize;
+    let mut i: usize = 0;
+    while i < n {
+        let x = s.entries[i];
+        put_second(out, 1 + 3 * n + 4 * i, x);
+        i += 1;
+    }
+}
+
+// The whole book. Inside this crate alone: at most eight crossings, and the output has a book's length.
+fn put_book(s: Site, out: &mut [u8])
+    requires { ⌜ (s .n ≤ 8) × (length (now out) ≡ book-length (s .n)) ⌝ }
+    ensures { λ _. ⌜ now (out .exit) ≡ book s ⌝ }
+{
+    out[0] = s.n;
+    put_firsts(s, out);
+    put_seconds(s, out);
+}
+
+// A book written: the number, and the lent bytes hold the book or, refused, what they held.
+pub fn write(s: Site, out: &mut [u8]) -> u8
+    ensures { λ r. ⌜ r ≡ write-number s (now (out .entry)) ⌝ }
+    ensures { λ _. ⌜ now (out .exit) ≡ written-book s (now (out .entry)) ⌝ }
+{
+    let refusal = write_number(s, &out[..]);
+    if refusal == 0 {
+        put_book(s, out);
+        return 0;
+    }
+    refusal
+}

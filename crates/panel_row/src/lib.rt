@@ -1,0 +1,60 @@
+// One crossing's row of the panel: sixteen bytes (document 01, "Panel").
+use machine::Crossing;
+use machine::Entry;
+ghost use mathlib.Core.Path.{_≡_};
+ghost use Rattle.machine.specs.Plant.{normal, secured};
+ghost use Rattle.machine.specs.Panel.{row};
+
+// Normal position: open, and every boom last reported up.
+pub fn is_normal(s: Entry, c: Crossing) -> bool
+    ensures { λ r. ⌜ r ≡ normal s c ⌝ }
+{
+    let booms = c.booms;
+    (c.phase == 0) & kind::booms::up(s.kind, booms)
+}
+
+// Secured: all ordered down, the road's red whole, and the booms as the kind demands.
+pub fn is_secured(s: Entry, c: Crossing) -> bool
+    ensures { λ r. ⌜ r ≡ secured s c ⌝ }
+{
+    let booms = c.booms;
+    (c.phase == 3) & c.lamps[1] & kind::booms::closed(s.kind, booms)
+}
+
+// The sixteen bytes of one crossing.
+pub fn row(beat: u8, s: Entry, c: Crossing) -> [u8; 16]
+    ensures { λ r. ⌜ r ≡ row beat s c ⌝ }
+{
+    let normal = is_normal(s, c);
+    let secured = is_secured(s, c);
+    let booms = c.booms;
+    let calling = panel_bytes::sum(c.calling);
+    let waiting = panel_bytes::sum(c.waiting);
+    let has_booms = 2 <= s.kind;
+    let road = panel_bytes::road(normal, c.lamps[0], c.lamps[1]);
+    let signal = panel_bytes::signal(secured, c.lamps[3], c.lamps[2]);
+    let on = panel_bytes::rhythm(beat, c.lamps[4], normal);
+    [
+        road,
+        panel_bytes::flags(
+            (0 < road) & on,
+            !normal & has_booms & on,
+            (0 < signal) & on,
+            on,
+        ),
+        panel_bytes::bit(!normal & !(has_booms & kind::booms::down(s.kind, booms))),
+        panel_bytes::bit(!normal & has_booms),
+        panel_bytes::bit(has_booms & ((c.phase == 2) | (c.phase == 3))),
+        panel_bytes::bit((s.kind == 4) & (c.phase == 3)),
+        signal,
+        panel_bytes::distant(signal),
+        panel_bytes::released(s, c.route, secured),
+        panel_bytes::flags(normal, secured, Crossing::OVERDUE < c.out, false),
+        c.phase,
+        panel_bytes::flags(c.kiosk, c.operator, false, false),
+        panel_bytes::low(calling),
+        panel_bytes::high(calling),
+        panel_bytes::low(waiting),
+        panel_bytes::high(waiting),
+    ]
+}
