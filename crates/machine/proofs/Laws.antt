@@ -1,22 +1,22 @@
 -- Laws of the whole machine that the crates above cite: fresh plants, other crossings, lengths.
-use mathlib.Core.Path.{_≡_, refl, sym, _∙_, ap, subst}
-use mathlib.Core.Bool.{Bool, true, false, cond, not, _&&_, _||_}
-use mathlib.Core.List.{List, [], _∷_, _++_}
-use Prim.Native.Nat.{ℕ, suc, _+_, _*_, _≤_, _<_}
+use mathlib.Core.Path.{_≡_, refl, _∙_}
+use mathlib.Core.Bool.{true, false, cond, not}
+use mathlib.Core.List.{List}
+use Prim.Native.Nat.{ℕ, _+_, _*_, _≤_, _<_}
 use native.Mathlib.Omega.{arith}
 use lib.Dec.{eqb, ltb, leb, leb·zero, lit≤}
 use lib.ListN.{getD, length, length-append}
-use borrow.Author.Tests.{eqb-true, eqb-false, eq-eqb, leb-true, le-leb, lt-ltb, le-ltb, not-false}
+use borrow.Author.Tests.{eqb-true, eqb-false, eq-eqb, leb-true, lt-ltb, le-ltb, not-false}
 use Rattle.machine.specs.Common.{tab, all-below}
-use Rattle.machine.specs.Plant.{Entry, Site, Crossing, Plant, full, entry, crossing, no-entry, no-crossing, fresh-crossing, fresh-plant, boom-count}
+use Rattle.machine.specs.Plant.{Entry, Site, Plant, entry, crossing, no-entry, no-crossing, fresh-crossing, fresh-plant, boom-count}
 use Rattle.machine.specs.Range.{entry-in, entry-zero, boom-in, crossing-zero, count-in, in-range}
 use Rattle.machine.specs.Events.{Event, is, number}
 use Rattle.machine.specs.Step.{touch, apply, step}
 use Rattle.machine.specs.Panel.{row, panel}
 use Rattle.machine.specs.SiteBook.{book-size, book-length, book-entry, book-site, read-number, read, setting, first-part, second-part, book}
-use Rattle.machine.proofs.Tools.{by-test, by-cond, below4, and-both, passed, all-below-at, getD-tab, length-concat, getD-concat}
+use Rattle.machine.proofs.Tools.{by-test, below4, and-both, passed, all-below-at, getD-tab, length-concat, getD-concat}
 use Rattle.machine.proofs.Taken.{taken-answer, refused-answer}
-use Rattle.machine.proofs.Ranges.{Zero, TrackIn, TrackAt, PhaseIn, opened, CrossingIn, NoCrossing, no-crossing-reads, at-most-eight, PlantIn, plant-tests}
+use Rattle.machine.proofs.Ranges.{TrackIn, TrackAt, opened, CrossingIn, NoCrossing, no-crossing-reads, at-most-eight, PlantIn, plant-tests}
 
 -- A fresh plant is in range --------------------------------------------------------------------------------------------------------
 fresh-used : (s : Entry) → CrossingIn s (fresh-crossing true)

@@ -1,13 +1,13 @@
 -- The limits 255 and 900 to the unit, in plain numbers.
 use mathlib.Core.Path.{_≡_, refl}
-use mathlib.Core.Bool.{Bool, true, false, cond}
-use Prim.Native.Nat.{ℕ, zero, suc, _+_, _≤_, _<_}
+use mathlib.Core.Bool.{true, false, cond}
+use Prim.Native.Nat.{ℕ, zero, suc, _≤_, _<_}
 use native.Mathlib.Omega.{arith}
-use lib.Dec.{eqb, ltb, leb}
+use lib.Dec.{ltb, leb}
 use borrow.Author.Tests.{leb-true, leb-false, ltb-true, ltb-false, lt-ltb, le-ltb, le-leb, lt-leb}
-use Rattle.machine.specs.Plant.{Entry, Crossing, Plant, overdue-ticks, trains, entry, crossing}
+use Rattle.machine.specs.Plant.{Plant, overdue-ticks, trains, entry, crossing}
 use Rattle.machine.specs.Range.{in-range}
-use Rattle.machine.specs.Events.{Event, place-limit, value-limit, refusal, number}
+use Rattle.machine.specs.Events.{place-limit, value-limit, refusal, number}
 use Rattle.machine.specs.Settling.{out-settled}
 use Rattle.machine.proofs.Tools.{by-test}
 

@@ -1,12 +1,12 @@
 -- What the range tests say, as facts: a test that holds gives its record, and the record gives the test.
-use mathlib.Core.Path.{_≡_, refl, sym, _∙_, ap, subst}
-use mathlib.Core.Bool.{Bool, true, false, cond, not, _&&_, _||_, true≢false, false≢true}
+use mathlib.Core.Path.{_≡_, ap}
+use mathlib.Core.Bool.{Bool, true, false, not, _&&_, _||_}
 use Prim.Native.Nat.{ℕ, suc, _+_, _^_, _≤_, _<_}
 use native.Mathlib.Omega.{arith}
 use lib.Dec.{eqb, ltb, leb}
-use borrow.Author.Tests.{eqb-true, eqb-false, leb-true, leb-false, ltb-true, ltb-false, eq-eqb, le-leb, lt-ltb, le-ltb, not-true}
+use borrow.Author.Tests.{eqb-true, leb-true, ltb-true, ltb-false, eq-eqb, le-leb, lt-ltb, le-ltb, not-true}
 use Rattle.machine.specs.Common.{all-below}
-use Rattle.machine.specs.Plant.{Entry, Crossing, Plant, release-ticks, overdue-ticks, full, calling, waiting, route, occupied, boom, lamp, trains, entry, crossing, dependent, boom-count}
+use Rattle.machine.specs.Plant.{Entry, Crossing, Plant, release-ticks, overdue-ticks, full, calling, waiting, route, occupied, boom, lamp, trains, entry, crossing, dependent}
 use Rattle.machine.specs.Range.{gap-in, entry-in, entry-zero, track-zero, track-in, boom-in, phase-in, crossing-in, crossing-zero, place-in, count-in, in-range}
 use Rattle.machine.proofs.Tools.{by-test, by-cond, and-both, and-intro, or-right, or-left-false, all-below-intro, all-below-at}
 

@@ -1,22 +1,22 @@
 -- A plant in range stays in range under every event.
-use mathlib.Core.Path.{_≡_, refl, sym, _∙_, ap, subst}
-use mathlib.Core.Bool.{Bool, true, false, cond, not, _&&_, _||_, true≢false, false≢true}
-use Prim.Native.Nat.{ℕ, suc, _+_, _-_, _%_, pred, _≤_, _<_}
+use mathlib.Core.Path.{_≡_, refl, sym, _∙_, subst}
+use mathlib.Core.Bool.{Bool, true, false, cond, _&&_, true≢false}
+use Prim.Native.Nat.{ℕ, suc, _+_, pred, _≤_, _<_}
 use native.Mathlib.Omega.{arith}
 use lib.Dec.{eqb, ltb, leb, lit<}
 use lib.ListN.{getD}
-use borrow.Author.Tests.{eqb-true, eqb-false, leb-true, ltb-true, ltb-false, le-leb, lt-ltb}
+use borrow.Author.Tests.{eqb-true, eqb-false, leb-true, le-leb, lt-ltb}
 use Rattle.machine.specs.Common.{tab, bit}
 use Rattle.machine.specs.Plant.{Entry, Crossing, Plant, release-ticks, overdue-ticks, full, calling, waiting, route, occupied, boom, lamp, trains, entry, crossing, no-crossing, dependent, boom-count, reason, booms-up}
 use Rattle.machine.specs.Range.{in-range, boom-in}
 use Rattle.machine.specs.Events.{Event, is, is-at, on-track, place-limit, value-limit, number}
-use Rattle.machine.specs.Effects.{calls, calling-after, waiting-after, cancels, act, releases, to-gap, phase-ticked, timer-ticked, tick}
-use Rattle.machine.specs.Settling.{phase-settled, timer-settled, out-settled, with-phase, settle}
+use Rattle.machine.specs.Effects.{calling-after, waiting-after, cancels, act, releases, to-gap, phase-ticked, timer-ticked, tick}
+use Rattle.machine.specs.Settling.{phase-settled, timer-settled, out-settled, settle}
 use Rattle.machine.specs.Step.{touch, apply, step}
-use Rattle.machine.proofs.Tools.{by-test, by-cond, and-both, getD-tab, each-tab}
+use Rattle.machine.proofs.Tools.{by-test, by-cond, and-both, getD-tab}
 use Rattle.machine.proofs.Trains.{trains-after}
 use Rattle.machine.proofs.Taken.{Accepted, accepted, taken-tests, taken-crossing, taken-answer, refused-answer}
-use Rattle.machine.proofs.Ranges.{EntryIn, some-gap, Zero, TrackIn, TrackAt, PhaseIn, opened, warning, right, closed, raising, CrossingIn, NoCrossing, zero-kind, PlantIn, plant-reads, plant-tests, entry-of}
+use Rattle.machine.proofs.Ranges.{EntryIn, some-gap, TrackIn, TrackAt, PhaseIn, opened, warning, right, closed, raising, CrossingIn, NoCrossing, zero-kind, PlantIn, plant-reads, plant-tests, entry-of}
 
 -- Phase and timer ------------------------------------------------------------------------------------------------------------------
 -- a timer that does not run out yet

@@ -1,14 +1,14 @@
 -- What the number of an event tells: taken or refused, never both, and what each test of the chain passed.
-use mathlib.Core.Path.{_≡_, refl, sym, _∙_, ap, subst}
-use mathlib.Core.Bool.{Bool, true, false, cond, not, _&&_, _||_, true≢false}
-use Prim.Native.Nat.{ℕ, _+_, _≤_, _<_}
+use mathlib.Core.Path.{_≡_, refl, sym, _∙_, ap}
+use mathlib.Core.Bool.{Bool, true, false, not, _&&_}
+use Prim.Native.Nat.{ℕ, _≤_, _<_}
 use native.Mathlib.Omega.{arith}
 use lib.Dec.{eqb, ltb, leb}
 use borrow.Author.Tests.{eqb-true, eqb-false, leb-false, ltb-false, eq-eqb, ne-eqb, not-false}
 use Rattle.machine.specs.Plant.{Entry, Crossing, Plant, full, trains, entry, crossing, dependent}
 use Rattle.machine.specs.Range.{in-range}
 use Rattle.machine.specs.Events.{Event, is, is-to, crossing-limit, place-limit, value-limit, any-calling, blocked, refusal, number}
-use Rattle.machine.specs.Step.{Answer, apply, written, step}
+use Rattle.machine.specs.Step.{apply, written, step}
 use Rattle.machine.proofs.Tools.{passed}
 
 -- A taken event and a refused one --------------------------------------------------------------------------------------------------

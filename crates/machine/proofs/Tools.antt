@@ -1,6 +1,6 @@
 -- Small laws that every proof cites: picks, tests, tables, sums, and the chain of refusals.
 use mathlib.Core.Path.{_≡_, refl, sym, _∙_, ap, subst}
-use mathlib.Core.Bool.{Bool, true, false, cond, not, _&&_, _||_, false≢true, true≢false}
+use mathlib.Core.Bool.{Bool, true, false, cond, _&&_, _||_, false≢true, true≢false}
 use mathlib.Core.List.{List, [], _∷_, _++_, append-nil}
 use Prim.Native.Nat.{ℕ, zero, suc, _+_, _*_, _≤_, _<_}
 use native.Mathlib.Omega.{arith}
@@ -10,7 +10,7 @@ use lib.Dec.{eqb}
 use lib.ListN.{getD, length, set, length-set, length-append, List·getD-append, drop-of-length-le}
 use lib.Seq.{sets, sets-eq, ext-getD, getD-set-same, getD-set-other, getD-append-add}
 use borrow.Author.Tests.{eqb-true, eqb-false}
-use Rattle.machine.specs.Common.{tab, all-below, any-below, sum-below, sum4, concat-below, bit, refuse}
+use Rattle.machine.specs.Common.{tab, all-below, any-below, sum-below, concat-below, refuse}
 
 -- Picks and tests ------------------------------------------------------------------------------------------------------------------
 pub by-test : (b : Bool) {A : Type 0} → (b ≡ true → A) → (b ≡ false → A) → A

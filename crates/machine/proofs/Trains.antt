@@ -9,7 +9,7 @@ use Rattle.machine.specs.Common.{bit}
 use Rattle.machine.specs.Plant.{Entry, Crossing, calling, waiting, trains}
 use Rattle.machine.specs.Events.{Event, is, is-at}
 use Rattle.machine.specs.Effects.{calls, calling-after, waiting-after}
-use Rattle.machine.proofs.Tools.{by-test, by-cond, and-both}
+use Rattle.machine.proofs.Tools.{by-cond, and-both}
 
 -- the tests in the order of the definitions: strike-in, passage, route set
 queue-law : (b1 b2 b5 r : Bool) (c w : ℕ) → (b1 ≡ true → b2 ≡ false) → (b2 ≡ true → 0 < c + w) →

@@ -1,7 +1,7 @@
 -- What a taken event does to its own crossing, and a tick to each, before the crossing settles.
-use mathlib.Core.Bool.{Bool, true, false, cond, not, _&&_, _||_}
+use mathlib.Core.Bool.{Bool, false, cond, not, _&&_, _||_}
 use Prim.Native.Nat.{ℕ, _+_, _-_, pred}
-use lib.Dec.{eqb, ltb, leb}
+use lib.Dec.{eqb}
 use Rattle.machine.specs.Common.{tab, bit}
 use Rattle.machine.specs.Plant.{Entry, Crossing, release-ticks, calling, waiting, route, occupied, boom, lamp, dependent, total}
 use Rattle.machine.specs.Events.{Event, is, is-to, is-at}

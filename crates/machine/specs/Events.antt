@@ -1,6 +1,6 @@
 -- Events: the table of codes, places and values, and the number of an event.
-use mathlib.Core.Bool.{Bool, true, false, cond, not, _&&_, _||_}
-use Prim.Native.Nat.{ℕ, _+_}
+use mathlib.Core.Bool.{Bool, cond, not, _&&_, _||_}
+use Prim.Native.Nat.{ℕ}
 use lib.Dec.{eqb, ltb, leb}
 pub use Rattle.machine.specs.declared.Event.{Event}
 use Rattle.machine.specs.Common.{any-below, refuse}

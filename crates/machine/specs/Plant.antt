@@ -1,6 +1,5 @@
 -- What the plant holds: how a record is read, the fresh plant, and what document 01 says of a whole crossing.
 use mathlib.Core.Bool.{Bool, true, false, cond, not, _&&_, _||_}
-use mathlib.Core.List.{List, []}
 use Prim.Native.Nat.{ℕ, _+_, _/_, _%_, _^_}
 use lib.Dec.{eqb, ltb, leb}
 use lib.ListN.{getD}

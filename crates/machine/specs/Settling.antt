@@ -1,7 +1,7 @@
 -- Settling: once, by the phase on entry to this step.
-use mathlib.Core.Bool.{Bool, true, false, cond, not, _&&_, _||_}
+use mathlib.Core.Bool.{Bool, cond, _&&_, _||_}
 use Prim.Native.Nat.{ℕ, suc, _+_}
-use lib.Dec.{eqb, ltb, leb}
+use lib.Dec.{eqb, leb}
 use Rattle.machine.specs.Common.{bit}
 use Rattle.machine.specs.Plant.{Entry, Crossing, overdue-ticks, boom, reason, booms-up}
 

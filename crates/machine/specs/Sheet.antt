@@ -1,8 +1,8 @@
 -- Event sheet: its layout, and the run of a plant over it.
-use mathlib.Core.Bool.{Bool, true, false, cond, not, _&&_, _||_}
-use mathlib.Core.List.{List, [], _∷_}
+use mathlib.Core.Bool.{cond, not}
+use mathlib.Core.List.{List}
 use Prim.Native.Nat.{ℕ, zero, suc, _+_, _*_}
-use lib.Dec.{eqb, ltb, leb}
+use lib.Dec.{eqb, ltb}
 use lib.ListN.{length}
 pub use Rattle.machine.specs.declared.Run.{Run}
 use Rattle.machine.specs.Common.{refuse, bit, byte, word}

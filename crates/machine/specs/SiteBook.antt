@@ -1,13 +1,13 @@
 -- Site book: bytes to settings and settings to bytes.
-use mathlib.Core.Bool.{Bool, true, false, cond, not, _&&_, _||_}
+use mathlib.Core.Bool.{Bool, cond, not}
 use mathlib.Core.List.{List, [], _∷_, _++_}
 use Prim.Native.Nat.{ℕ, _+_, _*_}
-use lib.Dec.{eqb, ltb, leb}
+use lib.Dec.{eqb, ltb}
 use lib.ListN.{length, getD}
 pub use Rattle.machine.specs.declared.Reading.{Reading}
 use Rattle.machine.specs.Common.{tab, all-below, concat-below, refuse, byte, word, low, high}
 use Rattle.machine.specs.Numbers.{bad-book-length, bad-count, bad-setting, bad-output-length}
-use Rattle.machine.specs.Plant.{Entry, Site, Plant, no-entry, fresh-plant}
+use Rattle.machine.specs.Plant.{Entry, Site, no-entry, fresh-plant}
 use Rattle.machine.specs.Range.{entry-in, entry-zero, count-in}
 
 -- the size n, one byte; length 1 + 7n

@@ -1,8 +1,8 @@
 -- One event: the plant after it and its answer.
-use mathlib.Core.Bool.{Bool, true, false, cond, not, _&&_, _||_}
+use mathlib.Core.Bool.{cond, _&&_}
 use mathlib.Core.List.{List, [], _∷_}
 use Prim.Native.Nat.{ℕ, _+_, _%_}
-use lib.Dec.{eqb, ltb, leb}
+use lib.Dec.{eqb}
 pub use Rattle.machine.specs.declared.Answer.{Answer}
 use Rattle.machine.specs.Common.{tab, sum-below}
 use Rattle.machine.specs.Plant.{Entry, Crossing, Plant, entry, crossing}

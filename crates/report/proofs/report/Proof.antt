@@ -1,4 +1,4 @@
-use mathlib.Core.Path.{_≡_, sym, _∙_, ap, subst}
+use mathlib.Core.Path.{sym, _∙_, ap, subst}
 use Prim.Native.Nat.{ℕ, _*_, _-_, _<_}
 use lib.ListN.{length}
 use native.Mathlib.Nat.{sub-zero}
