@@ -10,13 +10,10 @@ use Rattle.machine.specs.Plant.{Entry, Crossing, Plant, release-ticks, o
 use Rattle.machine.specs.Range.{gap-in, entry-in, entry-zero, track-zero, track-in, boom-in, phase-in, crossing-in, crossing-zero, place-in, count-in, in-range}
 use Rattle.machine.proofs.Tools.{by-test, by-cond, and-both, and-intro, or-right, or-left-false, all-below-intro, all-below-at}
 
--- The settings ---------------------------------------------------------------------------------------------------------------------
+-- The settings, as far as the laws ask ---------------------------------------------------------------------------------------------
 pub record EntryIn (s : Entry) : Type 0 where
   pub some-kind : 1 ≤ s .kind
-  pub kind : s .kind ≤ 4
-  pub some-track : 1 ≤ s .tracks
   pub tracks : s .tracks ≤ 4
-  pub mask : s .mask < 2 ^ s .tracks
   pub some-pre : 1 ≤ s .pre
   pub pre : s .pre ≤ 180
   pub gap : gap-in (s .kind) (s .gap) ≡ true
@@ -28,15 +25,10 @@ entry-reads s q =
     let f = and-both _ (leb 1 (s .pre) && leb (s .pre) 180) (g .0) in
     let m = and-both _ (ltb (s .mask) (2 ^ s .tracks)) (f .0) in
     let t = and-both _ (leb 1 (s .tracks) && leb (s .tracks) 4) (m .0) in
-    let k = and-both (leb 1 (s .kind)) _ (t .0) in
-    let t2 = and-both (leb 1 (s .tracks)) _ (t .1) in
     let f2 = and-both (leb 1 (s .pre)) _ (f .1) in
     record {
-      some-kind = leb-true _ _ (k .0);
-      kind = leb-true _ _ (k .1);
-      some-track = leb-true _ _ (t2 .0);
-      tracks = leb-true _ _ (t2 .1);
-      mask = ltb-true _ _ (m .1);
+      some-kind = leb-true _ _ (and-both (leb 1 (s .kind)) _ (t .0) .0);
+      tracks = leb-true _ _ (and-both (leb 1 (s .tracks)) _ (t .1) .1);
       some-pre = leb-true _ _ (f2 .0);
       pre = leb-true _ _ (f2 .1);
       gap = g .1;

@@ -7,7 +7,7 @@ use lib.Dec.{eqb, ltb, leb}
 use borrow.Author.Tests.{eqb-true, eqb-false, leb-false, ltb-false, eq-eqb, ne-eqb, not-false}
 use Rattle.machine.specs.Plant.{Entry, Crossing, Plant, full, trains, entry, crossing, dependent}
 use Rattle.machine.specs.Range.{in-range}
-use Rattle.machine.specs.Events.{Event, is, is-to, crossing-limit, place-limit, value-limit, any-calling, blocked, refusal, number}
+use Rattle.machine.specs.Events.{Event, is, crossing-limit, place-limit, value-limit, refusal, number}
 use Rattle.machine.specs.Step.{apply, written, step}
 use Rattle.machine.proofs.Tools.{passed}
 
@@ -29,7 +29,7 @@ answer-number p e = by (eqb (number p e) 0) refl
     by true q = let z = eqb-true (number p e) 0 q in ap (λ a. a .number) (taken-answer p e z) ∙ sym z
     by false q = ap (λ a. a .number) (refused-answer p e (eqb-false (number p e) 0 q))
 
--- What a taken event passed --------------------------------------------------------------------------------------------------------
+-- What a taken event passed, as far as the laws ask ------------------------------------------------------------------------------
 pub record Accepted (n : ℕ) (s : Entry) (c : Crossing) (e : Event) : Type 0 where
   pub code : e .code ≤ 9
   pub crossing : e .crossing < crossing-limit n (e .code)
@@ -38,8 +38,6 @@ pub record Accepted (n : ℕ) (s : Entry) (c : Crossing) (e : Event) : Type 0 wh
   pub routed : is 5 e ≡ true → dependent s (e .place) ≡ true
   pub room : is 1 e ≡ true → trains c (e .place) < full
   pub there : is 2 e ≡ true → 0 < trains c (e .place)
-  pub quiet : is-to 4 0 e ≡ true → any-calling c ≡ false
-  pub clear : is 7 e ≡ true → blocked c ≡ false
 
 pub accepted : (n : ℕ) (s : Entry) (c : Crossing) (e : Event) → refusal n s c e ≡ 0 → Accepted n s c e
 unfolding refusal
@@ -51,8 +49,6 @@ accepted n s c e q =
     let v13 = passed (is 5 e && not (dependent s (e .place))) 12 _ (v8 .1) in
     let v9 = passed (is 1 e && leb full (trains c (e .place))) 8 _ (v13 .1) in
     let v10 = passed (is 2 e && eqb (trains c (e .place)) 0) 9 _ (v9 .1) in
-    let v11 = passed (is-to 4 0 e && any-calling c) 10 _ (v10 .1) in
-    let v12 = passed (is 7 e && blocked c) 11 _ (v11 .1) in
     record {
       code = ltb-false 9 (e .code) (v5 .0);
       crossing = leb-false _ _ (v6 .0);
@@ -61,8 +57,6 @@ accepted n s c e q =
       routed = λ h. not-false _ (rw h at (v13 .0));
       room = λ h. leb-false _ _ (rw h at (v9 .0));
       there = λ h. let z : trains c (e .place) ≡ 0 → ⊥ = eqb-false _ _ (rw h at (v10 .0)) in omega arith;
-      quiet = λ h. rw h at (v11 .0);
-      clear = λ h. rw h at (v12 .0);
     }
 
 -- number 0: the plant is in range and no test of the event's own failed

@@ -10,7 +10,7 @@ use lib.Dec.{eqb}
 use lib.ListN.{getD, length, set, length-set, length-append, List·getD-append, drop-of-length-le}
 use lib.Seq.{sets, sets-eq, ext-getD, getD-set-same, getD-set-other, getD-append-add}
 use borrow.Author.Tests.{eqb-true, eqb-false}
-use Rattle.machine.specs.Common.{tab, all-below, any-below, sum-below, concat-below, refuse}
+use Rattle.machine.specs.Common.{tab, all-below, sum-below, concat-below, refuse}
 
 -- Picks and tests ------------------------------------------------------------------------------------------------------------------
 pub by-test : (b : Bool) {A : Type 0} → (b ≡ true → A) → (b ≡ false → A) → A
@@ -21,10 +21,6 @@ by-test false f g = g refl
 pub by-cond {ℓ} : {A : Type ℓ} (P : A → Type 0) (b : Bool) {x y : A} → (b ≡ true → P x) → (b ≡ false → P y) → P (cond b x y)
 by-cond P true f g = f refl
 by-cond P false f g = g refl
-
-pub cond-same : {A : Type 0} (b : Bool) (x : A) → cond b x x ≡ x
-cond-same true x = refl
-cond-same false x = refl
 
 pub and-both : (a b : Bool) → (a && b) ≡ true → (a ≡ true) × (b ≡ true)
 and-both true b q = (refl, q)
@@ -84,10 +80,6 @@ all-below-at (suc n) f q t b = let a = and-both (all-below n f) (f n) q in below
 pub all-below-same : (n : ℕ) (f g : ℕ → Bool) → ((t : ℕ) → t < n → f t ≡ g t) → all-below n f ≡ all-below n g
 all-below-same zero f g h = refl
 all-below-same (suc n) f g h = rw (h n (omega arith), all-below-same n f g (λ b l. h b (omega arith)))
-
-pub any-below-false : (n : ℕ) (f : ℕ → Bool) → any-below n f ≡ false → (t : ℕ) → t < n → f t ≡ false
-any-below-false zero f q t b = absurd (omega arith)
-any-below-false (suc n) f q t b = let a = or-false (any-below n f) (f n) q in below-suc (λ t. f t ≡ false) n (any-below-false n f (a .0)) (a .1) t b
 
 -- Sums ---------------------------------------------------------------------------------------------------------------------------
 pub sum-add : (n : ℕ) (f g : ℕ → ℕ) → sum-below n (λ i. f i + g i) ≡ sum-below n f + sum-below n g
