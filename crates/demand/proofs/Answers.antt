@@ -1,6 +1,6 @@
 -- One event from a plant: what its answer tells of the plant after it and of the trains written off.
 use mathlib.Core.Path.{_≡_, sym, _∙_, ap, subst}
-use mathlib.Core.Bool.{true, false}
+use mathlib.Core.Bool.{true, false, and-false}
 use Prim.Native.Nat.{ℕ, zero, suc, _≤_, _<_}
 use native.Mathlib.Omega.{arith}
 use lib.Dec.{eqb}
@@ -13,7 +13,7 @@ use Rattle.machine.specs.Range.{in-range}
 use Rattle.machine.specs.Events.{place-limit, value-limit, refusal, number}
 use Rattle.machine.specs.Effects.{written-at}
 use Rattle.machine.specs.Step.{touch, apply, written, step}
-use Rattle.machine.proofs.Tools.{by-test, and-false, getD-tab}
+use Rattle.machine.proofs.Tools.{by-test, getD-tab}
 use Rattle.machine.proofs.Taken.{taken-answer, refused-answer, answer-number, Accepted, accepted, taken-tests}
 use Rattle.machine.proofs.Ranges.{PlantIn}
 use Rattle.demand.specs.Ledger.{taken}

@@ -16,7 +16,7 @@ use Rattle.machine.specs.Events.{is, place-limit}
 use Rattle.machine.specs.Effects.{act, tick, written-at}
 use Rattle.machine.specs.Settling.{settle}
 use Rattle.machine.specs.Step.{after, touch}
-use Rattle.machine.proofs.Tools.{by-test, by-cond, or-false, below4}
+use Rattle.machine.proofs.Tools.{by-test, by-cond, neither, below4}
 use Rattle.machine.proofs.Taken.{Accepted}
 use Rattle.machine.proofs.Ranges.{PhaseIn, opened, warning, right, closed, raising}
 use Rattle.demand.specs.Ledger.{taken, note, log, count, last, countdown, queue, written-off}
@@ -122,4 +122,4 @@ module _ (p : Plant) (es : List Event) (e : Event) (i : ℕ) (c : Crossing) (k :
     unfolding note written-at
     written-touched = by-test (is 0 e || eqb (e .crossing) i)
         (λ o. rw (longer-log (rw (t, o))) (written-more (k .agree) e))
-        (λ o. rw (same-log (rw (t, o)), or-false (is 0 e) (eqb (e .crossing) i) o .0, zero-add))
+        (λ o. rw (same-log (rw (t, o)), neither (is 0 e) (eqb (e .crossing) i) o .0, zero-add))

@@ -1,7 +1,7 @@
 -- What the panel shows of a crossing: a signal that lets a train pass, an order to the booms, and normal position after a tick.
 use mathlib.Core.Path.{_≡_, refl}
 use mathlib.Core.Logic.{_⊎_, inl, inr, ⊎-elim}
-use mathlib.Core.Bool.{Bool, true, false, cond, _||_}
+use mathlib.Core.Bool.{Bool, true, false, cond, _||_, and-false}
 use Prim.Native.Nat.{_+_, _%_, _<_}
 use native.Mathlib.Omega.{arith}
 use lib.Dec.{eqb, ltb}
@@ -13,7 +13,7 @@ use Rattle.machine.specs.Plant.{overdue-ticks, calling, boom, lamp, reason-of, 
 use Rattle.machine.specs.Effects.{releases, tick}
 use Rattle.machine.specs.Settling.{phase-settled, settle}
 use Rattle.machine.specs.Panel.{signal, right-down, left-down, released, releases-shown, status}
-use Rattle.machine.proofs.Tools.{by-test, by-cond, and-false, or-false, or-left-false}
+use Rattle.machine.proofs.Tools.{by-test, by-cond, neither, or-left-false}
 use Rattle.demand.proofs.Timing.{rests, tick-rests}
 
 module _ (s : Entry) (c : Crossing) where
@@ -32,7 +32,7 @@ module _ (s : Entry) (c : Crossing) where
   tick-reason q = go (releases c)
     where
       go : (r : Bool) → reason-of (c .kiosk) (c .operator) (λ t. cond r 0 (calling c t)) ≡ false
-      go true = rw (or-false (c .kiosk || c .operator) _ q .0)
+      go true = rw (neither (c .kiosk || c .operator) _ q .0)
       go false = q
 
   module _ (r : rests (c .phase) ≡ true) where

@@ -9,7 +9,7 @@ use Rattle.machine.specs.Common.{bit}
 use Rattle.machine.specs.declared.Entry.{Entry}
 use Rattle.machine.specs.Effects.{to-gap, phase-ticked, timer-ticked}
 use Rattle.machine.specs.Settling.{phase-settled, timer-settled}
-use Rattle.machine.proofs.Tools.{by-test, by-cond, or-false, or-left-false}
+use Rattle.machine.proofs.Tools.{by-test, by-cond, neither, or-left-false}
 use Rattle.demand.specs.Demand.{needed}
 
 -- open or raising
@@ -66,7 +66,7 @@ module _ (kind phase : ℕ) (up : Bool) where
   stands-keeps : rests phase ≡ false → phase-settled kind true up phase ≡ phase
   unfolding phase-settled
   stands-keeps q =
-      let r = or-false (eqb phase 0) (eqb phase 4) q in
+      let r = neither (eqb phase 0) (eqb phase 4) q in
       by-test (eqb phase 1) (λ one. rw (eqb-true phase 1 one)) (λ f. rw (r .0, r .1, f))
 
 module _ (S : ℕ → Type 0) (s : Entry) (phase timer : ℕ) where

@@ -1,6 +1,6 @@
 -- What an event does to a crossing as stores into its arrays, with the code, the place and the value as parameters.
 use mathlib.Core.Path.{_≡_, refl, _∙_}
-use mathlib.Core.Bool.{Bool, true, false, cond, not, _&&_}
+use mathlib.Core.Bool.{Bool, true, false, cond, not, _&&_, and-true, and-false}
 use mathlib.Core.List.{List}
 use Prim.Native.Nat.{ℕ, _+_, _-_, pred}
 use lib.Dec.{eqb}
@@ -18,7 +18,7 @@ use Rattle.machine.specs.Common.{tab, bit}
 use Rattle.machine.specs.Plant.{release-ticks, calling, waiting, route, occupied}
 use Rattle.machine.specs.Events.{is}
 use Rattle.machine.specs.Effects.{calls, calling-after, waiting-after, cancels, act}
-use Rattle.machine.proofs.Tools.{and-false, and-true, tab-same, tab-getD, tab-set}
+use Rattle.machine.proofs.Tools.{tab-same, tab-getD, tab-set}
 
 -- A table that changes at one place ------------------------------------------------------------------------------------------------
 module _ {A : Type 0} (n : ℕ) (l : List A) (d : A) (i : ℕ) (len : length l ≡ n) where

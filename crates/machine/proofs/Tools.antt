@@ -1,6 +1,6 @@
 -- Small laws that every proof cites: picks, tests, tables, sums, and the chain of refusals.
 use mathlib.Core.Path.{_≡_, refl, sym, _∙_, ap, subst}
-use mathlib.Core.Bool.{Bool, true, false, cond, _&&_, _||_, false≢true, true≢false}
+use mathlib.Core.Bool.{Bool, true, false, cond, _&&_, _||_, true≢false, and-eq-true-iff}
 use mathlib.Core.List.{List, [], _∷_, _++_, append-nil}
 use Prim.Native.Nat.{ℕ, zero, suc, _+_, _*_, _≤_, _<_}
 use native.Mathlib.Omega.{arith}
@@ -23,23 +23,14 @@ by-cond P true f g = f refl
 by-cond P false f g = g refl
 
 pub and-both : (a b : Bool) → (a && b) ≡ true → (a ≡ true) × (b ≡ true)
-and-both true b q = (refl, q)
-and-both false b q = absurd (false≢true q)
+and-both a b = and-eq-true-iff a b .0
 
 pub and-intro : {a b : Bool} → a ≡ true → b ≡ true → (a && b) ≡ true
 and-intro p q = rw p q
 
-pub and-false : (b : Bool) → (b && false) ≡ false
-and-false true = refl
-and-false false = refl
-
-pub and-true : (b : Bool) → (b && true) ≡ b
-and-true true = refl
-and-true false = refl
-
-pub or-false : (a b : Bool) → (a || b) ≡ false → (a ≡ false) × (b ≡ false)
-or-false true b q = absurd (true≢false q)
-or-false false b q = (refl, q)
+pub neither : (a b : Bool) → (a || b) ≡ false → (a ≡ false) × (b ≡ false)
+neither true b q = absurd (true≢false q)
+neither false b q = (refl, q)
 
 -- a disjunction holds if its second part does where the first fails
 pub or-right : (a b : Bool) → (a ≡ false → b ≡ true) → (a || b) ≡ true

@@ -1,10 +1,8 @@
 -- Laws of the cases of a verdict.
-use mathlib.Core.Path.{_≡_, refl, _∙_, ap}
-use mathlib.Core.List.{List, [], _∷_}
-use Prim.Native.Nat.{ℕ, zero, suc, _≤_}
+use mathlib.Core.Path.{_≡_, _∙_, ap}
+use Prim.Native.Nat.{ℕ}
 use native.Mathlib.Omega.{arith}
 use lib.Dec.{eqb}
-use lib.ListN.{length, getD}
 use borrow.Author.Tests.{eqb-true, eqb-false}
 use Rattle.machine.specs.declared.Event.{Event}
 use Rattle.machine.proofs.Tools.{by-test}
@@ -30,9 +28,3 @@ pub refused-by : (k m : ℕ) (e : Event) → verdict k e ≡ Refuse m → (k ≡
 refused-by k m e p = by-test (eqb k 0)
     (λ q. let h : Take e ≡ Refuse m = rw q at p in let z : _≡_ {A = ℕ} 0 1 = cc in absurd (omega arith))
     (λ q. let h : Refuse k ≡ Refuse m = rw q at p in (cc, eqb-false k 0 q))
-
--- past the end of a list there is nothing
-pub getD-past : {A : Type 0} (l : List A) (i : ℕ) (d : A) → length l ≤ i → getD l i d ≡ d
-getD-past [] i d h = refl
-getD-past (x ∷ l) zero d h = absurd (omega arith)
-getD-past (x ∷ l) (suc i) d h = getD-past l i d (omega arith)

@@ -1,5 +1,5 @@
+use mathlib.Core.Bool.{and-assoc}
 use Rattle.machine.specs.Range.{entry-in}
-use Rattle.settings.proofs.Laws.{and-assoc}
 use borrow.Author.Needs.{needs}
 use Rattle.settings.proofs.entry_in.Statement.{statement}
 use Rattle.settings.proofs.entry_in.Tie as tie
@@ -12,7 +12,7 @@ gap-in-requires c κs = search needs
 
 returns : tie.Need-returns
 unfolding entry-in
-returns c = simp (c .gap-in .ensures, c .before .before .before .tracks-in .ensures, and-assoc)
+returns c = simp (c .gap-in .ensures, c .before .before .before .tracks-in .ensures, ← and-assoc)
 
 pub entry-in-spec : {M : Type 1} → statement M
 entry-in-spec = tie.close (tie.spec tracks-in-requires gap-in-requires returns)

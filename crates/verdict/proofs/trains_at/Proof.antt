@@ -1,7 +1,6 @@
 use mathlib.Core.Path.{_≡_}
 use native.Mathlib.Omega.{arith}
-use lib.ListN.{length}
-use Rattle.verdict.proofs.Cases.{getD-past}
+use lib.ListN.{length, List·getD-eq-default}
 use borrow.Author.Needs.{needs}
 use Rattle.verdict.proofs.trains_at.Statement.{statement}
 use Rattle.verdict.proofs.trains_at.Tie as tie
@@ -29,7 +28,7 @@ returns-2 c =
     let a = c .before in
     let k : length (a .args .t1 .calling) ≡ 4 = search (a .good, needs) in
     let w : length (a .args .t1 .waiting) ≡ 4 = search (a .good, needs) in
-    simp (getD-past (a .args .t1 .calling) (a .args .place) 0 (omega arith), getD-past (a .args .t1 .waiting) (a .args .place) 0 (omega arith))
+    simp (List·getD-eq-default (a .args .t1 .calling) 0 {n = a .args .place} (omega arith), List·getD-eq-default (a .args .t1 .waiting) 0 {n = a .args .place} (omega arith))
 
 pub trains-at-spec : {M : Type 1} → statement M
 trains-at-spec =
