@@ -1,8 +1,7 @@
 -- One event from a plant: what its answer tells of the plant after it and of the trains written off.
 use mathlib.Core.Path.{_≡_, sym, _∙_, ap, subst}
 use mathlib.Core.Bool.{true, false, and-false}
-use Prim.Native.Nat.{ℕ, zero, suc, _≤_, _<_}
-use native.Mathlib.Omega.{arith}
+use Prim.Native.Nat.{ℕ, _<_}
 use lib.Dec.{eqb}
 use borrow.Author.Tests.{eqb-true, eqb-false, eq-eqb}
 use Rattle.machine.specs.Common.{sum-below}
@@ -13,18 +12,11 @@ use Rattle.machine.specs.Range.{in-range}
 use Rattle.machine.specs.Events.{place-limit, value-limit, refusal, number}
 use Rattle.machine.specs.Effects.{written-at}
 use Rattle.machine.specs.Step.{touch, apply, written, step}
-use Rattle.machine.proofs.Tools.{by-test, getD-tab}
+use Rattle.machine.proofs.Tools.{sum-past, getD-tab}
 use Rattle.machine.proofs.Taken.{taken-answer, refused-answer, answer-number, Accepted, accepted, taken-tests}
 use Rattle.machine.proofs.Ranges.{PlantIn}
 use Rattle.demand.specs.Ledger.{taken}
 use Rattle.demand.specs.Demand.{a-tick}
-
--- a sum whose further terms are 0
-pub sum-past : (f : ℕ → ℕ) (m n : ℕ) → n ≤ m → ((i : ℕ) → n ≤ i → i < m → f i ≡ 0) → sum-below m f ≡ sum-below n f
-sum-past f zero n l z = let e : n ≡ 0 = omega arith in rw e
-sum-past f (suc m) n l z = by-test (eqb n (suc m))
-    (λ q. rw (eqb-true n (suc m) q))
-    (λ q. let d : n ≡ suc m → ⊥ = eqb-false n (suc m) q in let ih = sum-past f m n (omega arith) (λ i a b. z i a (omega arith)) in omega (arith, z m (omega arith) (omega arith)))
 
 module _ (q : Plant) (e : Event) where
   pub taken-number : taken q e ≡ eqb (number q e) 0

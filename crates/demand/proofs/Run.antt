@@ -13,13 +13,13 @@ use Rattle.machine.specs.Plant.{entry, crossing, no-entry, fresh-crossing}
 use Rattle.machine.specs.Range.{in-range}
 use Rattle.machine.specs.Effects.{written-at}
 use Rattle.machine.specs.Step.{written, step, after, carried}
-use Rattle.machine.proofs.Tools.{by-test, sum-add, sum-same}
+use Rattle.machine.proofs.Tools.{by-test, sum-add, sum-same, sum-past}
 use Rattle.machine.proofs.Ranges.{plant-reads, entry-of}
 use Rattle.machine.proofs.Stays.{stays-in-range}
 use Rattle.demand.specs.Ledger.{taken, note, log, written-off}
 use Rattle.demand.proofs.Lists.{snoc-induction, after-append, carried-append, log-snoc}
 use Rattle.demand.proofs.Each.{Holds, fresh-holds, skipped, touched, written-touched}
-use Rattle.demand.proofs.Answers.{sum-past, taken-crossing, taken-site, taken-written, taken-accepted, refused-step}
+use Rattle.demand.proofs.Answers.{taken-crossing, taken-site, taken-written, taken-accepted, refused-step}
 
 -- the trains written off by the ledgers of all crossings
 abbrev all-written : Plant → List Event → ℕ

@@ -1,4 +1,5 @@
 pub mod Tools
+pub mod First
 pub mod Trains
 pub mod Taken
 pub mod Ranges

@@ -81,6 +81,13 @@ pub sum-same : (n : ℕ) (f g : ℕ → ℕ) → ((i : ℕ) → i < n → f i �
 sum-same zero f g h = refl
 sum-same (suc n) f g h = let ih = sum-same n f g (λ i b. h i (omega arith)) in let l = h n (omega arith) in omega arith
 
+-- a sum whose further terms are 0
+pub sum-past : (f : ℕ → ℕ) (m n : ℕ) → n ≤ m → ((i : ℕ) → n ≤ i → i < m → f i ≡ 0) → sum-below m f ≡ sum-below n f
+sum-past f zero n l z = let e : n ≡ 0 = omega arith in rw e
+sum-past f (suc m) n l z = by-test (eqb n (suc m))
+    (λ q. rw (eqb-true n (suc m) q))
+    (λ q. let d : n ≡ suc m → ⊥ = eqb-false n (suc m) q in let ih = sum-past f m n (omega arith) (λ i a b. z i a (omega arith)) in omega (arith, z m (omega arith) (omega arith)))
+
 -- Tables -------------------------------------------------------------------------------------------------------------------------
 module _ {A : Type 0} where
   pub getD-tab : (n : ℕ) (f : ℕ → A) (d : A) (t : ℕ) → t < n → getD (tab n f) t d ≡ f t

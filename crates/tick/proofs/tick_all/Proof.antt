@@ -7,9 +7,10 @@ use native.Mathlib.Nat.{le-refl}
 use borrow.Author.Needs.{needs}
 use Rattle.machine.specs.Common.{sum-below}
 use Rattle.machine.specs.Plant.{no-entry, no-crossing}
+use Rattle.machine.proofs.Tools.{sum-past}
+use Rattle.machine.proofs.First.{put-first, past-first, first-tab}
 use Rattle.machine.proofs.Ranges.{plant-reads, zero-kind}
 use Rattle.plant.proofs.Laws.{unread, crossing-read}
-use Rattle.tick.proofs.First.{put-first, past-first, first-tab, sum-up}
 use Rattle.tick.proofs.Past.{Tracks, each-tracks, next-at, written-off, past-stays, past-written}
 use Rattle.tick.proofs.tick_all.Statement.{statement}
 use Rattle.tick.proofs.tick_all.Tie as tie
@@ -88,7 +89,7 @@ returns c =
     let past : (i : ℕ) → site .n ≤ i → i < 8 → next-at site l i ≡ getD l i no-crossing =
     (λ i m b. past-stays _ _ (h .past i b m) (zero-kind _ (h .entry-past i b m)) (g i)) in
     let none : (i : ℕ) → site .n ≤ i → i < 8 → written-off l i ≡ 0 = (λ i m b. past-written (getD (site .entries) i no-entry) _ (h .past i b m)) in
-    (simp (w .1 .1 .0, w .1 .1 .1 .0, end, first-tab (next-at site l) l no-crossing (site .n) 8 eight (h .count) past, sum-up (written-off l) (site .n) 8 (h .count) none), omega arith)
+    (simp (w .1 .1 .0, w .1 .1 .1 .0, end, first-tab (next-at site l) l no-crossing (site .n) 8 eight (h .count) past, ← sum-past (written-off l) 8 (site .n) (h .count) none), omega arith)
 
 pub tick-all-spec : {M : Type 1} → statement M
 tick-all-spec =
