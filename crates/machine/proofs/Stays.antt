@@ -11,7 +11,7 @@ use Rattle.machine.specs.Plant.{Entry, Crossing, Plant, release-ticks, o
 use Rattle.machine.specs.Range.{in-range, boom-in}
 use Rattle.machine.specs.Events.{Event, is, is-at, on-track, place-limit, value-limit, number}
 use Rattle.machine.specs.Effects.{calling-after, waiting-after, cancels, act, releases, to-gap, phase-ticked, timer-ticked, tick}
-use Rattle.machine.specs.Settling.{phase-settled, timer-settled, out-settled, settle}
+use Rattle.machine.specs.Settling.{phase-settled, timer-settled, out-settled, with-phase, settle}
 use Rattle.machine.specs.Step.{touch, apply, step}
 use Rattle.machine.proofs.Tools.{by-test, by-cond, and-both, getD-tab}
 use Rattle.machine.proofs.Trains.{trains-after}
@@ -174,24 +174,18 @@ module _ (s : Entry) (g : EntryIn s) where
     }
 
 -- A record past the last crossing --------------------------------------------------------------------------------------------------
-module _ (s : Entry) (none : s .kind ≡ 0) where
-  zero-settles : (c : Crossing) → reason c ≡ false → NoCrossing c → NoCrossing (settle s 1 c)
-  unfolding settle phase-settled timer-settled out-settled booms-up
-  zero-settles c r h = record {
-    track = h .track;
-    boom = h .boom;
-    lamp = h .lamp;
-    kiosk = h .kiosk;
-    operator = h .operator;
-    countdown = h .countdown;
-    phase = rw (r, h .phase);
-    timer = rw (r, h .phase) (h .timer);
-    out = rw (r, h .phase, none);
-  }
+no-reason : (c : Crossing) → NoCrossing c → reason c ≡ false
+unfolding reason
+no-reason c h = rw (h .kiosk, h .operator, h .track 0 (lit< tt) .calling, h .track 1 (lit< tt) .calling, h .track 2 (lit< tt) .calling, h .track 3 (lit< tt) .calling)
 
-  zero-reason : (c : Crossing) → NoCrossing c → reason c ≡ false
-  unfolding reason
-  zero-reason c h = rw (h .kiosk, h .operator, h .track 0 (lit< tt) .calling, h .track 1 (lit< tt) .calling, h .track 2 (lit< tt) .calling, h .track 3 (lit< tt) .calling)
+same-phase : (c : Crossing) {phase timer out : ℕ} → c .phase ≡ phase → c .timer ≡ timer → c .out ≡ out → with-phase c phase timer out ≡ c
+same-phase c p t o = rw (← p, ← t, ← o)
+
+module _ (s : Entry) (none : s .kind ≡ 0) where
+  -- it settles as it is
+  pub zero-settles : (c : Crossing) → NoCrossing c → settle s 1 c ≡ c
+  unfolding settle phase-settled timer-settled out-settled booms-up
+  zero-settles c h = simp (no-reason c h, none, h .phase, h .timer) (same-phase c (h .phase) (h .timer) (h .out))
 
   zero-ticks : (c : Crossing) → NoCrossing c → NoCrossing (tick s c)
   unfolding tick phase-ticked timer-ticked
@@ -208,7 +202,7 @@ module _ (s : Entry) (none : s .kind ≡ 0) where
   }
 
   zero-touched : (c : Crossing) → NoCrossing c → NoCrossing (settle s 1 (tick s c))
-  zero-touched c h = let k = zero-ticks c h in zero-settles (tick s c) (zero-reason (tick s c) k) k
+  zero-touched c h = let k = zero-ticks c h in rw (zero-settles (tick s c) k) k
 
 -- The plant ------------------------------------------------------------------------------------------------------------------------
 touches-used : (p : Plant) (e : Event) (h : PlantIn p) → number p e ≡ 0 → (i : ℕ) → i < p .site .n → CrossingIn (entry p i) (touch (entry p i) i (crossing p i) e)

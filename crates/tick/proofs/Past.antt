@@ -1,6 +1,5 @@
 -- A record past the last crossing: a tick leaves it as it is, and writes nothing off there.
 use mathlib.Core.Path.{_≡_, refl}
-use mathlib.Core.Bool.{false}
 use mathlib.Core.List.{List, [], _∷_}
 use Prim.Native.Nat.{ℕ, zero, suc}
 use mir.Val.{Val}
@@ -9,17 +8,17 @@ use denote.Shadow.{shadow}
 use denote.Struct.Declared.{row}
 use borrow.Author.Needs.{needs}
 use Rattle.machine.proofs.Crossing.{the-type}
-use lib.Dec.{lit<}
 use lib.ListN.{length, getD}
 use Rattle.machine.specs.declared.Entry.{Entry}
 use Rattle.machine.specs.declared.Crossing.{Crossing}
 use Rattle.machine.specs.Common.{bit}
 use Rattle.machine.specs.declared.Site.{Site}
-use Rattle.machine.specs.Plant.{reason, booms-up, total, no-entry, no-crossing}
+use Rattle.machine.specs.Plant.{total, no-entry, no-crossing}
 use Rattle.machine.specs.Effects.{tick, releases, phase-ticked, timer-ticked}
-use Rattle.machine.specs.Settling.{settle, phase-settled, timer-settled, out-settled}
+use Rattle.machine.specs.Settling.{settle}
 use Rattle.machine.proofs.Tools.{tab-getD}
 use Rattle.machine.proofs.Ranges.{NoCrossing}
+use Rattle.machine.proofs.Stays.{zero-settles}
 
 -- a crossing of the code has its lists by track at length four
 pub record Tracks (c : Crossing) : Type 0 where
@@ -32,8 +31,8 @@ each-tracks (x ∷ l) [] i p = absurd p
 each-tracks (x ∷ l) (u ∷ us) zero p = record { calling = search (p, needs); waiting = search (p, needs) }
 each-tracks (x ∷ l) (u ∷ us) (suc i) p = each-tracks l us i (p .1)
 
-abbrev numbered : Crossing → ℕ → ℕ → ℕ → ℕ → Crossing
-numbered c countdown phase timer out = record {
+abbrev counted : Crossing → ℕ → ℕ → Crossing
+counted c countdown timer = record {
   calling = c .calling;
   waiting = c .waiting;
   route = c .route;
@@ -43,35 +42,22 @@ numbered c countdown phase timer out = record {
   kiosk = c .kiosk;
   operator = c .operator;
   countdown = countdown;
-  phase = phase;
+  phase = c .phase;
   timer = timer;
-  out = out;
+  out = c .out;
 }
 
--- a crossing whose four numbers are known
-with-numbers : (c : Crossing) {countdown phase timer out : ℕ} → c .countdown ≡ countdown → c .phase ≡ phase → c .timer ≡ timer → c .out ≡ out → numbered c countdown phase timer out ≡ c
-with-numbers c d p t o = rw (← d, ← p, ← t, ← o)
+same-counts : (c : Crossing) {countdown timer : ℕ} → c .countdown ≡ countdown → c .timer ≡ timer → counted c countdown timer ≡ c
+same-counts c d t = rw (← d, ← t)
 
 -- where neither the countdown nor the timer runs, a tick leaves the crossing to settle as it is
 pub still-ticks : (s : Entry) (c : Crossing) → c .countdown ≡ 0 → c .timer ≡ 0 → Tracks c → tick s c ≡ c
 unfolding tick phase-ticked timer-ticked
-still-ticks s c d t z = simp (d, t, tab-getD 4 (c .calling) 0 (z .calling), tab-getD 4 (c .waiting) 0 (z .waiting)) (with-numbers c d refl t refl)
+still-ticks s c d t z = simp (d, t, tab-getD 4 (c .calling) 0 (z .calling), tab-getD 4 (c .waiting) 0 (z .waiting)) (same-counts c d t)
 
 module _ (s : Entry) (c : Crossing) (h : NoCrossing c) where
-  past-reason : reason c ≡ false
-  unfolding reason
-  past-reason = rw (h .kiosk, h .operator, h .track 0 (lit< tt) .calling, h .track 1 (lit< tt) .calling, h .track 2 (lit< tt) .calling, h .track 3 (lit< tt) .calling)
-
-  -- all its numbers are 0
-  past-numbers : numbered c 0 0 0 0 ≡ c
-  past-numbers = with-numbers c (h .countdown) (h .phase) (h .timer) (h .out)
-
-  past-settles : s .kind ≡ 0 → settle s 1 c ≡ c
-  unfolding settle phase-settled timer-settled out-settled booms-up
-  past-settles none = simp (past-reason, none, h .countdown, h .phase, h .timer, h .out) past-numbers
-
   pub past-stays : s .kind ≡ 0 → Tracks c → settle s 1 (tick s c) ≡ c
-  past-stays none z = rw (still-ticks s c (h .countdown) (h .timer) z) (past-settles none)
+  past-stays none z = rw (still-ticks s c (h .countdown) (h .timer) z) (zero-settles s none c h)
 
   pub past-written : bit (releases c) (total c) ≡ 0
   past-written = rw (h .countdown)
