@@ -1,6 +1,8 @@
 // The sheet run: a plant, a sheet of events and a lent panel (document 01, "Event sheet and program").
+use machine::Crossing;
 use machine::Plant;
 use machine::Run;
+use machine::Site;
 use verdict::Verdict;
 ghost use mathlib.Core.Bool.{true};
 ghost use mathlib.Core.Path.{_≡_};
@@ -18,6 +20,30 @@ fn refused(p: Plant, number: u8) -> Run
         taken: 0,
         refused: 0,
         written: 0,
+    }
+}
+
+// Taken: the plant after the last event and the counts.
+fn ended(
+    site: Site,
+    beat: u8,
+    crossings: [Crossing; 8],
+    taken: u16,
+    refused: u16,
+    written: u32,
+) -> Run
+    ensures { λ r. ⌜ r ≡ record { number = 0; plant = record { site = site; beat = beat; crossings = crossings }; taken = taken; refused = refused; written = written } ⌝ }
+{
+    Run {
+        number: 0,
+        plant: Plant {
+            site,
+            beat,
+            crossings,
+        },
+        taken,
+        refused,
+        written,
     }
 }
 
@@ -56,17 +82,7 @@ fn play(p: Plant, sheet: &[u8], m: usize) -> Run
         let d = effect::apply(s, c, t);
         crossings[j] = d;
     }
-    Run {
-        number: 0,
-        plant: Plant {
-            site,
-            beat,
-            crossings,
-        },
-        taken,
-        refused,
-        written,
-    }
+    ended(site, beat, crossings, taken, refused, written)
 }
 
 // Runs a sheet and draws the panel after its last event. The number is 0, or 15, 4, 2, 4 or 14 with the plant as it was

@@ -158,12 +158,15 @@ loop-again-3 c =
     let o = own-place p f (l .k) q (l .taken) (l .refused) (l .written) (l .inv .1) _ v (t .0) z in
     (omega arith, rw (add-one (l .k), c .apply .ensures, j .before .before .before .before .event-at .ensures, ← t .1, o .1, o .0) (played-own p f (l .k) q (l .taken) (l .refused) (l .written) (l .inv .1) _ v (t .0) z))
 
+ended-requires : tie.Need-ended-requires Inv-loop μ-loop
+ended-requires c κs = search needs
+
 returns : tie.Need-returns Inv-loop μ-loop
 returns c =
-    let l = c .before .loop in
-    let a = c .before .before .before .before .before in
+    let l = c .before .before .loop in
+    let a = c .before .before .before .before .before .before in
     let end : l .k ≡ a .args .m = omega arith in
-    sym (l .inv .1 .same) ∙ ap (ran (a .args .p) (sheet-event (a .args .sheet .now))) end
+    c .ended .ensures ∙ sym (l .inv .1 .same) ∙ ap (ran (a .args .p) (sheet-event (a .args .sheet .now))) end
 
 pub play-spec : {M : Type 1} → statement M
 play-spec =
@@ -195,4 +198,5 @@ play-spec =
     array-set-from-crossings
     loop-less-3
     loop-again-3
+    ended-requires
     returns)
