@@ -1,11 +1,10 @@
 -- The train account of a crossing, over a tick and over an event of its own.
-use mathlib.Core.Path.{_≡_, refl, sym, ap, subst}
+use mathlib.Core.Path.{_≡_, refl, sym, ap}
 use mathlib.Core.Bool.{Bool, true, false, cond, _&&_}
 use mathlib.Core.List.{List, _∷_}
 use Prim.Native.Nat.{ℕ, _+_, _<_}
 use native.Mathlib.Omega.{arith}
 use lib.Dec.{eqb, lit<}
-use borrow.Author.Tests.{eqb-true}
 use Rattle.machine.specs.Common.{bit, sum4}
 use Rattle.machine.specs.declared.Entry.{Entry}
 use Rattle.machine.specs.declared.Crossing.{Crossing}
@@ -14,7 +13,7 @@ use Rattle.machine.specs.Plant.{calling, waiting, trains, total}
 use Rattle.machine.specs.Events.{is, is-at, on-track}
 use Rattle.machine.specs.Effects.{calling-after, waiting-after, act, releases, tick, written-at}
 use Rattle.machine.specs.Settling.{settle}
-use Rattle.machine.proofs.Tools.{below4, and-both}
+use Rattle.machine.proofs.Tools.{below4}
 use Rattle.machine.proofs.Trains.{trains-after}
 use Rattle.demand.specs.Ledger as ledger
 use Rattle.demand.specs.Ledger.{count, written-off}
@@ -48,7 +47,7 @@ module _ {s : Entry} {c : Crossing} {h : List Event} (a : Agree s c h) (e : Even
     own-total = omega (arith, at 0, at 1, at 2, at 3, one-hot (is 1 e) (e .place) (placed 1 refl), one-hot (is 2 e) (e .place) (placed 2 refl))
       where
         at : (t : ℕ) → calling-after s c e t + waiting-after s c e t + bit (is-at 2 t e) 1 ≡ trains c t + bit (is-at 1 t e) 1
-        at t = trains-after s c e t (λ q. let b = and-both (is 2 e) (eqb (e .place) t) q in subst (λ u. 0 < trains c u) (eqb-true _ _ (b .1)) (there (b .0)))
+        at t = trains-after s c e t there
 
     pub own-even : Even s c h → Even s (settle s 0 (act s c e)) (e ∷ h)
     unfolding count settle written-at

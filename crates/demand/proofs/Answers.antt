@@ -1,5 +1,5 @@
 -- One event from a plant: what its answer tells of the plant after it and of the trains written off.
-use mathlib.Core.Path.{_≡_, sym, _∙_, ap, subst}
+use mathlib.Core.Path.{_≡_, sym, _∙_, ap}
 use mathlib.Core.Bool.{true, false, and-false}
 use Prim.Native.Nat.{ℕ, _<_}
 use lib.Dec.{eqb}
@@ -13,7 +13,7 @@ use Rattle.machine.specs.Events.{place-limit, value-limit, refusal, number}
 use Rattle.machine.specs.Effects.{written-at}
 use Rattle.machine.specs.Step.{touch, apply, written, step}
 use Rattle.machine.proofs.Tools.{sum-past, getD-tab}
-use Rattle.machine.proofs.Taken.{taken-answer, refused-answer, answer-number, Accepted, accepted, taken-tests}
+use Rattle.machine.proofs.Taken.{taken-answer, refused-answer, answer-number}
 use Rattle.machine.proofs.Ranges.{PlantIn}
 use Rattle.demand.specs.Ledger.{taken}
 use Rattle.demand.specs.Demand.{a-tick}
@@ -24,12 +24,12 @@ module _ (q : Plant) (e : Event) where
   taken-number = ap (λ x. eqb x 0) (answer-number q e)
 
   module _ (t : taken q e ≡ true) where
-    zero-number : number q e ≡ 0
+    pub zero-number : number q e ≡ 0
     zero-number = eqb-true _ _ (sym taken-number ∙ t)
 
-    pub taken-crossing : (i : ℕ) → i < 8 → crossing (step q e .plant) i ≡ touch (entry q i) i (crossing q i) e
+    pub crossing-after : (i : ℕ) → i < 8 → crossing (step q e .plant) i ≡ touch (entry q i) i (crossing q i) e
     unfolding apply
-    taken-crossing i b = ap (λ a. crossing (a .plant) i) (taken-answer q e zero-number) ∙ getD-tab 8 (λ j. touch (entry q j) j (crossing q j) e) no-crossing i b
+    crossing-after i b = ap (λ a. crossing (a .plant) i) (taken-answer q e zero-number) ∙ getD-tab 8 (λ j. touch (entry q j) j (crossing q j) e) no-crossing i b
 
     pub taken-site : step q e .plant .site ≡ q .site
     unfolding apply
@@ -40,9 +40,6 @@ module _ (q : Plant) (e : Event) where
     unfolding written written-at
     taken-written g = ap (λ a. a .written) (taken-answer q e zero-number)
         ∙ sum-past (λ i. written-at (crossing q i) e) 8 (q .site .n) (g .count) (λ i a b. rw (g .past i b a .countdown, and-false))
-
-    pub taken-accepted : (i : ℕ) → eqb (e .crossing) i ≡ true → Accepted (q .site .n) (entry q i) (crossing q i) e
-    taken-accepted i o = subst (λ j. Accepted (q .site .n) (entry q j) (crossing q j) e) (eqb-true _ _ o) (accepted _ _ _ e (taken-tests q e zero-number .1))
 
   pub refused-step : taken q e ≡ false → step q e ≡ record { number = number q e; written = 0; plant = q }
   refused-step f = refused-answer q e (eqb-false _ _ (sym taken-number ∙ f))

@@ -14,12 +14,13 @@ use Rattle.machine.specs.Range.{in-range}
 use Rattle.machine.specs.Effects.{written-at}
 use Rattle.machine.specs.Step.{written, step, after, carried}
 use Rattle.machine.proofs.Tools.{by-test, sum-add, sum-same, sum-past}
+use Rattle.machine.proofs.Taken.{taken-accepted}
 use Rattle.machine.proofs.Ranges.{plant-reads, entry-of}
 use Rattle.machine.proofs.Stays.{stays-in-range}
 use Rattle.demand.specs.Ledger.{taken, note, log, written-off}
 use Rattle.demand.proofs.Lists.{snoc-induction, after-append, carried-append, log-snoc}
 use Rattle.demand.proofs.Each.{Holds, fresh-holds, skipped, touched, written-touched}
-use Rattle.demand.proofs.Answers.{taken-crossing, taken-site, taken-written, taken-accepted, refused-step}
+use Rattle.demand.proofs.Answers.{zero-number, crossing-after, taken-site, taken-written, refused-step}
 
 -- the trains written off by the ledgers of all crossings
 abbrev all-written : Plant → List Event → ℕ
@@ -76,9 +77,9 @@ module _ (p : Plant) where
           each = λ i b.
               let l : i < q .site .n = rw n b in
               let same = same-entry i in
-              let c = taken-crossing q e t i (omega (arith, g .count)) in
+              let c = crossing-after q e t i (omega (arith, g .count)) in
               rw (now, c, same) (touched p es e i (crossing q i) (k .each i b) t
-              (rw same at (g .used i l .phase)) (rw same at (entry-of g i l .tracks)) (λ o. rw same at (taken-accepted q e t i o)));
+              (rw same at (g .used i l .phase)) (rw same at (entry-of g i l .tracks)) (λ o. rw same at (taken-accepted q e (zero-number q e t) i o)));
           sum = sum-same (p .site .n) _ (λ i. written-at (crossing q i) e + written-off (entry p i) (log p i es)) (λ i b. written-touched p es e i (crossing q i) (k .each i b) t)
               ∙ sum-add (p .site .n) (λ i. written-at (crossing q i) e) (λ i. written-off (entry p i) (log p i es))
               ∙ omega (arith, carries, taken-written q e t g, ap (λ m. sum-below m (λ i. written-at (crossing q i) e)) n, k .sum);

@@ -6,10 +6,7 @@ use Prim.Native.Nat.{ℕ, _%_, _≤_, _<_}
 use native.Mathlib.Nat.{mod-eq-of-lt}
 use native.Mathlib.Omega.{arith}
 use lib.Dec.{eqb, ltb, leb}
-use lib.ListN.{length, getD, set, length-map}
-use mir.Val.{Val}
-use denote.Laws.{Is}
-use denote.Struct.Declared.{row}
+use lib.ListN.{length, getD, set}
 use borrow.Author.Tests.{ltb-true, ltb-false, le-leb}
 use Rattle.machine.specs.declared.Entry.{Entry}
 use Rattle.machine.specs.declared.Crossing.{Crossing}
@@ -22,7 +19,6 @@ use Rattle.machine.specs.Effects.{act, written-at}
 use Rattle.machine.specs.Settling.{settle}
 use Rattle.machine.specs.Step.{touch, apply, written, step}
 use Rattle.machine.proofs.Tools.{by-test, by-cond, tab-set}
-use Rattle.machine.proofs.Plant.{the-type}
 use Rattle.machine.proofs.Ranges.{plant-reads, entry-of}
 use Rattle.machine.proofs.Taken.{taken-answer, taken-tests, taken-crossing}
 use Rattle.plant.proofs.Laws.{unread, crossing-read}
@@ -46,10 +42,6 @@ refusal-at n entries crossings e h = by-test (ltb (e .crossing) 8)
     (λ q. let l : e .crossing < 8 = ltb-true _ _ q in rw (mod-eq-of-lt l))
     (λ q. let l : 8 ≤ e .crossing = ltb-false _ _ q in let m = limit-below n (e .code) h in
     unknown-at n _ _ _ _ e (le-leb (crossing-limit n (e .code)) (e .crossing) (omega arith)))
-
--- a plant of the code has eight crossings
-pub eight-crossings : (p : Plant) (vs : List Val) → Is (row the-type) p vs → length (p .crossings) ≡ 8
-eight-crossings p vs i = simp length-map at (i .1 .1 .1 .1 .0 .1 .0 .1)
 
 module _ (p : Plant) (e : Event) where
   -- in range, the number is the event's own

@@ -1,5 +1,5 @@
 -- A plant in range stays in range under every event.
-use mathlib.Core.Path.{_≡_, refl, sym, _∙_, subst}
+use mathlib.Core.Path.{_≡_, refl, sym, _∙_}
 use mathlib.Core.Bool.{Bool, true, false, cond, _&&_, true≢false}
 use Prim.Native.Nat.{ℕ, suc, _+_, pred, _≤_, _<_}
 use native.Mathlib.Omega.{arith}
@@ -14,8 +14,8 @@ use Rattle.machine.specs.Effects.{calling-after, waiting-after, cancels,
 use Rattle.machine.specs.Settling.{phase-settled, timer-settled, out-settled, with-phase, settle}
 use Rattle.machine.specs.Step.{touch, apply, step}
 use Rattle.machine.proofs.Tools.{by-test, by-cond, and-both, getD-tab}
-use Rattle.machine.proofs.Trains.{trains-after}
-use Rattle.machine.proofs.Taken.{Accepted, accepted, taken-tests, taken-crossing, taken-answer, refused-answer}
+use Rattle.machine.proofs.Trains.{at-place, trains-after}
+use Rattle.machine.proofs.Taken.{Accepted, taken-accepted, taken-crossing, taken-answer, refused-answer}
 use Rattle.machine.proofs.Ranges.{EntryIn, some-gap, TrackIn, TrackAt, PhaseIn, opened, warning, right, closed, raising, CrossingIn, NoCrossing, zero-kind, PlantIn, plant-reads, plant-tests, entry-of}
 
 -- Phase and timer ------------------------------------------------------------------------------------------------------------------
@@ -118,12 +118,11 @@ module _ (s : Entry) (g : EntryIn s) where
 
     few : (t : ℕ) → trains c t ≤ full → calling-after s c e t + waiting-after s c e t ≤ full
     few t f = by-test (is-at 1 t e)
-        (λ q. let r : trains c t < full = subst (λ u. trains c u < full) (eqb-true _ _ (and-both (is 1 e) (eqb (e .place) t) q .1)) (a .room (and-both (is 1 e) (eqb (e .place) t) q .0)) in
-        let m = rw q at after in omega arith)
+        (λ q. let r = at-place (λ u. trains c u < full) 1 t e (a .room) q in let m = rw q at after in omega arith)
         (λ q. let m = rw q at after in omega arith)
       where
         after : calling-after s c e t + waiting-after s c e t + bit (is-at 2 t e) 1 ≡ trains c t + bit (is-at 1 t e) 1
-        after = trains-after s c e t (λ q. let b = and-both (is 2 e) (eqb (e .place) t) q in subst (λ u. 0 < trains c u) (eqb-true _ _ (b .1)) (a .there (b .0)))
+        after = trains-after s c e t (a .there)
 
     plain-waits : (t : ℕ) → dependent s t ≡ false → waiting c t ≡ 0 → waiting-after s c e t ≡ 0
     unfolding waiting-after
@@ -134,7 +133,7 @@ module _ (s : Entry) (g : EntryIn s) where
 
     plain-route : (t : ℕ) (r : Bool) → dependent s t ≡ false → r ≡ false → cond (is-at 5 t e) (eqb (e .value) 1) r ≡ false
     plain-route t r d z = by-cond (λ x. x ≡ false) (is-at 5 t e)
-        (λ q. let b = and-both (is 5 e) (eqb (e .place) t) q in absurd (true≢false (sym (subst (λ u. dependent s u ≡ true) (eqb-true _ _ (b .1)) (a .routed (b .0))) ∙ d)))
+        (λ q. absurd (true≢false (sym (at-place (λ u. dependent s u ≡ true) 5 t e (a .routed) q) ∙ d)))
         (λ _. z)
 
     track-acts : (t : ℕ) → TrackAt s c t → TrackIn s t (calling-after s c e t) (waiting-after s c e t) (cond (is-at 5 t e) (eqb (e .value) 1) (route c t)) (cond (is-at 6 t e) (eqb (e .value) 1) (occupied c t))
@@ -214,8 +213,7 @@ touches-used p e h q i l =
     by-cond (CrossingIn s) (is 0 e)
     (λ _. settles s g 1 (tick s c) (omega arith) (ticks s g c (h .used i l)))
     (λ _. by-cond (CrossingIn s) (eqb (e .crossing) i)
-    (λ o. settles s g 0 (act s c e) (omega arith) (acts s g (p .site .n) c e
-    (subst (λ j. Accepted (p .site .n) (entry p j) (crossing p j) e) (eqb-true _ _ o) (accepted _ _ _ e (taken-tests p e q .1))) (h .used i l)))
+    (λ o. settles s g 0 (act s c e) (omega arith) (acts s g (p .site .n) c e (taken-accepted p e q i o) (h .used i l)))
     (λ _. h .used i l))
 
 touches-past : (p : Plant) (e : Event) (h : PlantIn p) → number p e ≡ 0 → (i : ℕ) → i < 8 → p .site .n ≤ i → NoCrossing (touch (entry p i) i (crossing p i) e)

@@ -1,6 +1,6 @@
 -- What the number of an event tells: taken or refused, never both, and what each test of the chain passed.
-use mathlib.Core.Path.{_≡_, refl, sym, _∙_, ap}
-use mathlib.Core.Bool.{Bool, true, false, not, _&&_}
+use mathlib.Core.Path.{_≡_, sym, _∙_, ap, subst}
+use mathlib.Core.Bool.{true, false, not, _&&_}
 use Prim.Native.Nat.{ℕ, _≤_, _<_}
 use native.Mathlib.Omega.{arith}
 use lib.Dec.{eqb, ltb, leb}
@@ -9,7 +9,7 @@ use Rattle.machine.specs.Plant.{Entry, Crossing, Plant, full, trains, en
 use Rattle.machine.specs.Range.{in-range}
 use Rattle.machine.specs.Events.{Event, is, crossing-limit, place-limit, value-limit, refusal, number}
 use Rattle.machine.specs.Step.{apply, written, step}
-use Rattle.machine.proofs.Tools.{passed}
+use Rattle.machine.proofs.Tools.{by-test, passed}
 
 -- A taken event and a refused one --------------------------------------------------------------------------------------------------
 pub taken-answer : (p : Plant) (e : Event) → number p e ≡ 0 → step p e ≡ record { number = 0; written = written p e; plant = apply p e }
@@ -23,11 +23,9 @@ refused-answer p e q = rw (ne-eqb (number p e) 0 q)
 
 -- the answer's number is the event's
 pub answer-number : (p : Plant) (e : Event) → step p e .number ≡ number p e
-answer-number p e = by (eqb (number p e) 0) refl
-  where
-    by : (b : Bool) → eqb (number p e) 0 ≡ b → step p e .number ≡ number p e
-    by true q = let z = eqb-true (number p e) 0 q in ap (λ a. a .number) (taken-answer p e z) ∙ sym z
-    by false q = ap (λ a. a .number) (refused-answer p e (eqb-false (number p e) 0 q))
+answer-number p e = by-test (eqb (number p e) 0)
+    (λ q. let z = eqb-true _ _ q in ap (λ a. a .number) (taken-answer p e z) ∙ sym z)
+    (λ q. ap (λ a. a .number) (refused-answer p e (eqb-false _ _ q)))
 
 -- What a taken event passed, as far as the laws ask ------------------------------------------------------------------------------
 pub record Accepted (n : ℕ) (s : Entry) (c : Crossing) (e : Event) : Type 0 where
@@ -64,6 +62,10 @@ pub taken-tests : (p : Plant) (e : Event) → number p e ≡ 0 → (in-range p �
 unfolding number
 taken-tests p e q = let v = passed (not (in-range p)) 14 _ q in (not-false _ (v .0), v .1)
 
--- and an event of one crossing is at one of the plant's
+-- what it passed at its own crossing
+pub taken-accepted : (p : Plant) (e : Event) → number p e ≡ 0 → (i : ℕ) → eqb (e .crossing) i ≡ true → Accepted (p .site .n) (entry p i) (crossing p i) e
+taken-accepted p e q i o = subst (λ j. Accepted (p .site .n) (entry p j) (crossing p j) e) (eqb-true _ _ o) (accepted _ _ _ e (taken-tests p e q .1))
+
+-- an event of one crossing is at one of the plant's
 pub taken-crossing : (p : Plant) (e : Event) → number p e ≡ 0 → is 0 e ≡ false → e .crossing < p .site .n
 taken-crossing p e q z = rw z at (accepted _ _ _ e (taken-tests p e q .1) .crossing)

@@ -1,5 +1,5 @@
 -- The trains of one track over an event: one more by a strike-in, one less by a passage, otherwise as many.
-use mathlib.Core.Path.{_≡_, refl}
+use mathlib.Core.Path.{_≡_, refl, subst}
 use mathlib.Core.Bool.{Bool, true, false, cond, not, _&&_, true≢false}
 use Prim.Native.Nat.{ℕ, _+_, _-_, pred, _≤_, _<_}
 use native.Mathlib.Omega.{arith}
@@ -28,7 +28,11 @@ queue-law false false false r c w x g = omega arith
 pub apart : (j k t : ℕ) (e : Event) → eqb j k ≡ false → is-at j t e ≡ true → is-at k t e ≡ false
 apart j k t e d q = rw (eqb-true (e .code) j (and-both (is j e) (eqb (e .place) t) q .0)) (rw d)
 
-pub trains-after : (s : Entry) (c : Crossing) (e : Event) (t : ℕ) → (is-at 2 t e ≡ true → 0 < trains c t) →
+-- what holds at the place of an event of code k holds at t where the event is at t
+pub at-place : (P : ℕ → Type 0) (k t : ℕ) (e : Event) → (is k e ≡ true → P (e .place)) → is-at k t e ≡ true → P t
+at-place P k t e f q = let b = and-both (is k e) (eqb (e .place) t) q in subst P (eqb-true _ _ (b .1)) (f (b .0))
+
+pub trains-after : (s : Entry) (c : Crossing) (e : Event) (t : ℕ) → (is 2 e ≡ true → 0 < trains c (e .place)) →
     calling-after s c e t + waiting-after s c e t + bit (is-at 2 t e) 1 ≡ trains c t + bit (is-at 1 t e) 1
 unfolding calling-after waiting-after
-trains-after s c e t g = queue-law (is-at 1 t e) (is-at 2 t e) (is-at 5 t e && eqb (e .value) 1) (calls s c t) (calling c t) (waiting c t) (apart 1 2 t e refl) g
+trains-after s c e t g = queue-law (is-at 1 t e) (is-at 2 t e) (is-at 5 t e && eqb (e .value) 1) (calls s c t) (calling c t) (waiting c t) (apart 1 2 t e refl) (at-place (λ u. 0 < trains c u) 2 t e g)

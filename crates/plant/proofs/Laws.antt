@@ -1,12 +1,21 @@
--- A crossing read within the array of a plant.
+-- The array of crossings of a plant: its length, and a crossing read within it.
 use mathlib.Core.Path.{_≡_, refl}
 use mathlib.Core.Bool.{false}
 use mathlib.Core.List.{List, [], _∷_}
 use Prim.Native.Nat.{ℕ, zero, suc, _<_}
 use native.Mathlib.Omega.{arith}
-use lib.ListN.{getD, length}
+use lib.ListN.{getD, length, length-map}
+use mir.Val.{Val}
+use denote.Laws.{Is}
+use denote.Struct.Declared.{row}
 use Rattle.machine.specs.declared.Crossing.{Crossing}
+use Rattle.machine.specs.declared.Plant.{Plant}
 use Rattle.machine.specs.Plant.{no-crossing}
+use Rattle.machine.proofs.Plant.{the-type}
+
+-- a plant of the code has eight crossings
+pub eight-crossings : (p : Plant) (vs : List Val) → Is (row the-type) p vs → length (p .crossings) ≡ 8
+eight-crossings p vs i = simp length-map at (i .1 .1 .1 .1 .0 .1 .0 .1)
 
 -- within a list, what a read past its end would give does not count
 pub within : {A : Type 0} (l : List A) (i : ℕ) (d e : A) → i < length l → getD l i d ≡ getD l i e

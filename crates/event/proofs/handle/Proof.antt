@@ -1,4 +1,5 @@
-use Rattle.event.proofs.Steps.{eight-crossings, number-spoilt, judged}
+use Rattle.plant.proofs.Laws.{eight-crossings}
+use Rattle.event.proofs.Steps.{number-spoilt, judged}
 use Rattle.verdict.proofs.Cases.{taken-by, refused-by}
 use Rattle.verdict.specs.Cases.{verdict}
 use Rattle.machine.proofs.Taken.{refused-answer}

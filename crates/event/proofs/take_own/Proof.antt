@@ -1,5 +1,5 @@
-use Rattle.event.proofs.Steps.{eight-crossings, own-below, own-room, own-step}
-use Rattle.plant.proofs.Laws.{crossing-read}
+use Rattle.event.proofs.Steps.{own-below, own-room, own-step}
+use Rattle.plant.proofs.Laws.{eight-crossings, crossing-read}
 use borrow.Author.Tests.{ne-eqb}
 use lib.ListN.{length}
 use native.Mathlib.Omega.{arith}

@@ -1,10 +1,10 @@
 use Rattle.machine.specs.Panel.{panel}
-use Rattle.plant.proofs.Laws.{crossing-read}
+use Rattle.plant.proofs.Laws.{eight-crossings, crossing-read}
 use Prim.Native.Nat.{_≤_, _<_, _-_}
 use mathlib.Core.Path.{_≡_, sym, _∙_}
 use native.Mathlib.Omega.{arith}
 use native.Mathlib.Nat.{zero-add}
-use lib.ListN.{length, length-map}
+use lib.ListN.{length}
 use lib.Seq.{sets}
 use Rattle.machine.specs.Common.{concat-below}
 use Rattle.panel.proofs.Rows.{row-at, row-length}
@@ -60,7 +60,7 @@ loop-again c =
     let l = c .before .before .before .before .before .before .before .before .loop in
     let w = l .inv in
     let r = c .before .before .put in
-    let eight : length (p .crossings) ≡ 8 = simp length-map at (a .good .0 .1 .1 .1 .1 .0 .1 .0 .1) in
+    let eight = eight-crossings p _ (a .good .0) in
     let few : l .i < length (p .crossings) = omega (arith, a .pre) in (
       omega arith,
       (

@@ -1,8 +1,8 @@
 use native.Mathlib.Numerals.{add-one}
 use native.Mathlib.Omega.{arith}
 use Prim.Native.Nat.{_≤_, _<_, _-_}
-use lib.ListN.{length, length-map}
-use Rattle.plant.proofs.Laws.{crossing-read}
+use lib.ListN.{length}
+use Rattle.plant.proofs.Laws.{eight-crossings, crossing-read}
 use mathlib.Core.Path.{_≡_}
 use Rattle.machine.specs.Common.{all-below}
 use Rattle.machine.specs.Plant.{entry, crossing}
@@ -45,7 +45,7 @@ loop-again : tie.Need-loop-again Inv-loop μ-loop
 loop-again c =
     let p = c .before .before .before .before .before .before .args .t1 in
     let i = c .before .before .before .before .loop .i in
-    let eight : length (p .crossings) ≡ 8 = simp length-map at (c .before .before .before .before .before .before .good .0 .1 .1 .1 .1 .0 .1 .0 .1) in
+    let eight = eight-crossings p _ (c .before .before .before .before .before .before .good .0) in
     let l : i < length (p .crossings) = omega arith in
     (search needs, simp (add-one, c .before .before .before .before .loop .inv .1, c .place-in .ensures, crossing-read (p .crossings) i l))
 

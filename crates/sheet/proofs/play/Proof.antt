@@ -9,9 +9,8 @@ use Rattle.machine.specs.declared.Plant.{Plant}
 use Rattle.machine.specs.Plant.{no-entry}
 use Rattle.machine.specs.Events.{is, refusal}
 use Rattle.machine.specs.Sheet.{sheet-event, ran}
-use Rattle.plant.proofs.Laws.{unread}
+use Rattle.plant.proofs.Laws.{eight-crossings, unread}
 use Rattle.verdict.specs.Cases.{verdict}
-use Rattle.event.proofs.Steps.{eight-crossings}
 use Rattle.sheet.proofs.Runs.{Played, played-none, taken, played-refused, played-tick, own-place, own-room-at, played-own}
 use borrow.Author.Needs.{needs}
 use Rattle.sheet.proofs.play.Statement.{statement}
