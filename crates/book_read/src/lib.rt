@@ -21,13 +21,6 @@ const BAD_COUNT: u8 = 2;
 
 const BAD_SETTING: u8 = 3;
 
-// A number of 16 bits, low byte first.
-fn word(lower: u8, upper: u8) -> u16
-    ensures { λ r. ⌜ r ≡ lower + 256 * upper ⌝ }
-{
-    (lower as u16) + 256 * (upper as u16)
-}
-
 // Entry i of a book. Inside this crate alone: the book has its length and i is below its size.
 fn entry_at(b: &[u8], i: usize) -> Entry
     requires { ⌜ (length (now b) ≡ book-length (book-size (now b))) × (i < book-size (now b)) ⌝ }
@@ -41,8 +34,8 @@ fn entry_at(b: &[u8], i: usize) -> Entry
         kind: b[first],
         tracks: b[first + 1],
         mask: b[first + 2],
-        pre: word(b[second], b[second + 1]),
-        gap: word(b[third], b[third + 1]),
+        pre: word::join(b[second], b[second + 1]),
+        gap: word::join(b[third], b[third + 1]),
     }
 }
 

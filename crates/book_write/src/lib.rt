@@ -12,7 +12,7 @@ ghost use Prim.Native.Nat.{_+_, _*_, _≤_};
 ghost use lib.Dec.{ltb};
 ghost use lib.ListN.{length};
 ghost use lib.Seq.{sets};
-ghost use Rattle.machine.specs.Common.{all-below, concat-below, high, low};
+ghost use Rattle.machine.specs.Common.{all-below, concat-below};
 ghost use Rattle.machine.specs.Range.{entry-in, entry-zero};
 ghost use Rattle.machine.specs.SiteBook.{
   book,
@@ -74,20 +74,6 @@ fn write_number(s: Site, out: &[u8]) -> u8
     )
 }
 
-// The low byte of a number of 16 bits.
-fn low(x: u16) -> u8
-    ensures { λ r. ⌜ r ≡ low x ⌝ }
-{
-    (x % 256) as u8
-}
-
-// Its high byte.
-fn high(x: u16) -> u8
-    ensures { λ r. ⌜ r ≡ high x ⌝ }
-{
-    (x / 256 % 256) as u8
-}
-
 // The three bytes of an entry's first part, from a place on. Inside this crate alone: the output has room for them.
 fn put_first(out: &mut [u8], at: usize, x: Entry)
     requires { ⌜ at + 3 ≤ length (now out) ⌝ }
@@ -103,10 +89,10 @@ fn put_second(out: &mut [u8], at: usize, x: Entry)
     requires { ⌜ at + 4 ≤ length (now out) ⌝ }
     ensures { λ _. ⌜ now (out .exit) ≡ sets (now (out .entry)) at (second-part x) ⌝ }
 {
-    out[at] = low(x.pre);
-    out[at + 1] = high(x.pre);
-    out[at + 2] = low(x.gap);
-    out[at + 3] = high(x.gap);
+    out[at] = word::low(x.pre);
+    out[at + 1] = word::high(x.pre);
+    out[at + 2] = word::low(x.gap);
+    out[at + 3] = word::high(x.gap);
 }
 
 // The first array. Inside this crate alone: at most eight crossings, and the output has a book's length.

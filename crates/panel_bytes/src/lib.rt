@@ -5,7 +5,7 @@ ghost use mathlib.Core.Path.{_≡_};
 ghost use Prim.Native.Nat.{_+_, _≤_};
 ghost use lib.Dec.{eqb};
 ghost use lib.ListN.{getD};
-ghost use Rattle.machine.specs.Common.{bit, sum4, low, high};
+ghost use Rattle.machine.specs.Common.{bit, sum4};
 ghost use Rattle.machine.specs.Plant.{dependent};
 ghost use Rattle.machine.specs.Panel.{rhythm};
 
@@ -93,17 +93,4 @@ pub fn sum(count: [u8; 4]) -> u16
     ensures { λ r. ⌜ r ≡ sum4 (λ t. getD count t 0) ⌝ }
 {
     wide(count[0]) + wide(count[1]) + wide(count[2]) + wide(count[3])
-}
-
-// The two bytes of a count, low byte first.
-pub fn low(x: u16) -> u8
-    ensures { λ r. ⌜ r ≡ low x ⌝ }
-{
-    (x % 256) as u8
-}
-
-pub fn high(x: u16) -> u8
-    ensures { λ r. ⌜ r ≡ high x ⌝ }
-{
-    (x / 256 % 256) as u8
 }

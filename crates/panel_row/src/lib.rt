@@ -52,9 +52,9 @@ pub fn row(beat: u8, s: Entry, c: Crossing) -> [u8; 16]
         panel_bytes::flags(normal, secured, Crossing::OVERDUE < c.out, false),
         c.phase,
         panel_bytes::flags(c.kiosk, c.operator, false, false),
-        panel_bytes::low(calling),
-        panel_bytes::high(calling),
-        panel_bytes::low(waiting),
-        panel_bytes::high(waiting),
+        word::low(calling),
+        word::high(calling),
+        word::low(waiting),
+        word::high(waiting),
     ]
 }

@@ -10,20 +10,13 @@ ghost use Rattle.reader.specs.Whole.{Whole};
 // The longest sheet, in events.
 pub const LIMIT: usize = 4096;
 
-fn wide(x: u8) -> usize
-    ensures { λ r. ⌜ r ≡ x ⌝ }
-    ensures { λ r. ⌜ r ≤ 255 ⌝ }
-{
-    x as usize
-}
-
 // The size that a sheet of at least two bytes states. For other crates alone.
 pub fn size(sheet: &[u8]) -> usize
     requires { ⌜ 2 ≤ length (now sheet) ⌝ }
     ensures { λ r. ⌜ r ≡ sheet-size (now (sheet .entry)) ⌝ }
     ensures { λ r. ⌜ r < 65536 ⌝ }
 {
-    wide(sheet[0]) + 256 * wide(sheet[1])
+    word::join(sheet[0], sheet[1]) as usize
 }
 
 // A sheet's own number: 4, 2, 4, or 0.

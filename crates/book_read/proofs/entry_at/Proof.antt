@@ -45,33 +45,33 @@ add-t10 c = search needs
 shared-slice-read-t16 : tie.Need-shared-slice-read-t16
 shared-slice-read-t16 c = search needs
 
-shared-slice-read-word : tie.Need-shared-slice-read-word
-shared-slice-read-word c = search needs
+shared-slice-read-join : tie.Need-shared-slice-read-join
+shared-slice-read-join c = search needs
 
-add-word : tie.Need-add-word
-add-word c = search needs
+add-join : tie.Need-add-join
+add-join c = search needs
 
-shared-slice-read-word-2 : tie.Need-shared-slice-read-word-2
-shared-slice-read-word-2 c = search needs
+shared-slice-read-join-2 : tie.Need-shared-slice-read-join-2
+shared-slice-read-join-2 c = search needs
 
-word-requires : tie.Need-word-requires
-word-requires c κs = search needs
+join-requires : tie.Need-join-requires
+join-requires c κs = search needs
 
-shared-slice-read-word-3 : tie.Need-shared-slice-read-word-3
-shared-slice-read-word-3 c = search needs
+shared-slice-read-join-3 : tie.Need-shared-slice-read-join-3
+shared-slice-read-join-3 c = search needs
 
-add-word-2 : tie.Need-add-word-2
-add-word-2 c = search needs
+add-join-2 : tie.Need-add-join-2
+add-join-2 c = search needs
 
-shared-slice-read-word-4 : tie.Need-shared-slice-read-word-4
-shared-slice-read-word-4 c = search needs
+shared-slice-read-join-4 : tie.Need-shared-slice-read-join-4
+shared-slice-read-join-4 c = search needs
 
-word-requires-2 : tie.Need-word-requires-2
-word-requires-2 c κs = search needs
+join-requires-2 : tie.Need-join-requires-2
+join-requires-2 c κs = search needs
 
 returns : tie.Need-returns
 unfolding book-entry
-returns c = simp (c .word2 .ensures, c .before .before .before .word .ensures)
+returns c = simp (c .join2 .ensures, c .before .before .before .join .ensures)
 
 pub entry-at-spec : {M : Type 1} → statement M
 entry-at-spec =
@@ -91,12 +91,12 @@ entry-at-spec =
     shared-slice-read-t14
     add-t10
     shared-slice-read-t16
-    shared-slice-read-word
-    add-word
-    shared-slice-read-word-2
-    word-requires
-    shared-slice-read-word-3
-    add-word-2
-    shared-slice-read-word-4
-    word-requires-2
+    shared-slice-read-join
+    add-join
+    shared-slice-read-join-2
+    join-requires
+    shared-slice-read-join-3
+    add-join-2
+    shared-slice-read-join-4
+    join-requires-2
     returns)
