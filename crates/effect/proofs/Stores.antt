@@ -53,12 +53,12 @@ module _ {A : Type 0} (n : ℕ) (l : List A) (d : A) (i : ℕ) (len : length l �
       (stored-if b5 w v5))
 
 -- a store of what stands there
-pub set-kept : {A : Type 0} (l : List A) (i : ℕ) (d : A) {v : A} → getD l i d ≡ v → set l i v ≡ l
+set-kept : {A : Type 0} (l : List A) (i : ℕ) (d : A) {v : A} → getD l i d ≡ v → set l i v ≡ l
 set-kept l i d h = rw (← h) (set-getD l i d)
 
 -- A crossing of the code -----------------------------------------------------------------------------------------------------------
 -- its arrays have four and five places
-pub record Sized (c : Crossing) : Type 0 where
+record Sized (c : Crossing) : Type 0 where
   pub calling : length (c .calling) ≡ 4
   pub waiting : length (c .waiting) ≡ 4
   pub route : length (c .route) ≡ 4
@@ -66,7 +66,7 @@ pub record Sized (c : Crossing) : Type 0 where
   pub booms : length (c .booms) ≡ 4
   pub lamps : length (c .lamps) ≡ 5
 
-pub sized : (c : Crossing) (vs : List Val) → Is (row the-type) c vs → Sized c
+sized : (c : Crossing) (vs : List Val) → Is (row the-type) c vs → Sized c
 sized c vs p = record {
   calling = search (p .1 .1 .0, needs);
   waiting = search (p .1 .1 .1 .0, needs);
@@ -108,9 +108,9 @@ module _ (s : Entry) (c : Crossing) (e : Event) where
     out = c .out;
   }
 
-  pub act-stores : Sized c → act s c e ≡ stores
+  pub act-stores : (vs : List Val) → Is (row the-type) c vs → act s c e ≡ stores
   unfolding act calling-after waiting-after
-  act-stores z = simp (
+  act-stores vs p = let z = sized c vs p in simp (
     queue 4 (c .calling) 0 at (z .calling) (is 1 e) (is 2 e) (is 5 e) on (λ t. calling c t + bit (calls s c t) 1) (λ t. pred (calling c t)) (λ t. calling c t + waiting c t),
     queue 4 (c .waiting) 0 at (z .waiting) (is 1 e) (is 2 e) (is 5 e) on (λ t. waiting c t + bit (not (calls s c t)) 1) (λ t. waiting c t - bit (eqb (calling c t) 0) 1) (λ t. 0),
     stored 4 (c .route) false at (z .route) (is 5 e) (λ t. on),
@@ -136,9 +136,9 @@ module _ (s : Entry) (c : Crossing) (e : Event) where
     out = c .out;
   }
 
-  pub passage-waited : Sized c → e .code ≡ 2 → calling c at ≡ 0 → act s c e ≡ waited
+  pub passage-waited : (vs : List Val) → Is (row the-type) c vs → e .code ≡ 2 → calling c at ≡ 0 → act s c e ≡ waited
   unfolding cancels
-  passage-waited z k none = simp (act-stores z, k, none, set-kept (c .calling) at 0 none)
+  passage-waited vs p k none = simp (act-stores vs p, k, none, set-kept (c .calling) at 0 none)
 
   -- a route set
   abbrev routed : Crossing
@@ -157,6 +157,6 @@ module _ (s : Entry) (c : Crossing) (e : Event) where
     out = c .out;
   }
 
-  pub route-set : Sized c → e .code ≡ 5 → on ≡ true → act s c e ≡ routed
+  pub route-set : (vs : List Val) → Is (row the-type) c vs → e .code ≡ 5 → on ≡ true → act s c e ≡ routed
   unfolding cancels
-  route-set z k v = simp (act-stores z, k, v)
+  route-set vs p k v = simp (act-stores vs p, k, v)

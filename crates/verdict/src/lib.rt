@@ -129,14 +129,7 @@ fn judge_state(s: Entry, c: Crossing, e: Event) -> Verdict
     match code {
         1 => refuse_if(wide(Crossing::FULL) <= trains_at(c, e.place), TRACK_FULL, e),
         2 => refuse_if(trains_at(c, e.place) == 0, NO_TRAIN, e),
-        4 => {
-            let calling = c.calling;
-            refuse_if(
-                (e.value == 0) & settle::any_calling(calling),
-                TRAIN_CALLING,
-                e,
-            )
-        }
+        4 => refuse_if(held_by_train(c, e.value), TRAIN_CALLING, e),
         5 => {
             let t = e.place as usize;
             refuse_if(!kind::dependent(s, t), NOT_DEPENDENT, e)

@@ -1,6 +1,6 @@
 use mathlib.Core.Path.{refl}
 use Rattle.effect.proofs.Taken.{on-four}
-use Rattle.effect.proofs.Stores.{sized, act-stores}
+use Rattle.effect.proofs.Stores.{act-stores}
 use Rattle.machine.specs.Effects.{cancels}
 use borrow.Author.Needs.{needs}
 use Rattle.effect.proofs.approach.Statement.{statement}
@@ -16,15 +16,13 @@ returns : tie.Need-returns
 unfolding cancels
 returns c =
     let a = c .before .before .before in
-    let z = sized _ _ (a .good .1 .0) in
-    simp (act-stores (a .args .s) (a .args .c) (a .args .e) z, a .pre .0, c .if1 .taken)
+    simp (act-stores (a .args .s) (a .args .c) (a .args .e) _ (a .good .1 .0), a .pre .0, c .if1 .taken)
 
 returns-2 : tie.Need-returns-2
 unfolding cancels
 returns-2 c =
     let a = c .before .before .before in
-    let z = sized _ _ (a .good .1 .0) in
-    simp (act-stores (a .args .s) (a .args .c) (a .args .e) z, a .pre .0, c .if1 .left)
+    simp (act-stores (a .args .s) (a .args .c) (a .args .e) _ (a .good .1 .0), a .pre .0, c .if1 .left)
 
 pub approach-spec : {M : Type 1} → statement M
 approach-spec = tie.close (tie.spec cast-t element-write-d returns returns-2)

@@ -1,8 +1,7 @@
 use mathlib.Core.Path.{refl}
 use Rattle.effect.proofs.Taken.{on-four}
-use Rattle.effect.proofs.Stores.{sized, act-stores}
+use Rattle.effect.proofs.Stores.{act-stores}
 use Rattle.machine.specs.Effects.{cancels}
-use mathlib.Core.Path.{refl}
 use borrow.Author.Needs.{needs}
 use Rattle.effect.proofs.boom_report.Statement.{statement}
 use Rattle.effect.proofs.boom_report.Tie as tie
@@ -17,8 +16,7 @@ returns : tie.Need-returns
 unfolding cancels
 returns c =
     let a = c .before in
-    let z = sized _ _ (a .good .1 .0) in
-    simp (act-stores (a .args .s) (a .args .c) (a .args .e) z, a .pre .0)
+    simp (act-stores (a .args .s) (a .args .c) (a .args .e) _ (a .good .1 .0), a .pre .0)
 
 pub boom-report-spec : {M : Type 1} → statement M
 boom-report-spec = tie.close (tie.spec cast-b element-write-d returns)

@@ -1,4 +1,4 @@
-use Rattle.effect.proofs.Stores.{sized, act-stores}
+use Rattle.effect.proofs.Stores.{act-stores}
 use Rattle.machine.specs.Effects.{cancels}
 use borrow.Author.Needs.{needs}
 use Rattle.effect.proofs.lamp_report.Statement.{statement}
@@ -14,8 +14,7 @@ returns : tie.Need-returns
 unfolding cancels
 returns c =
     let a = c .before .before in
-    let z = sized _ _ (a .good .1 .0) in
-    simp (act-stores (a .args .s) (a .args .c) (a .args .e) z, a .pre .0)
+    simp (act-stores (a .args .s) (a .args .c) (a .args .e) _ (a .good .1 .0), a .pre .0)
 
 pub lamp-report-spec : {M : Type 1} → statement M
 lamp-report-spec = tie.close (tie.spec cast-l element-write-d returns)

@@ -1,12 +1,10 @@
-use mathlib.Core.Path.{sym}
-use Rattle.effect.proofs.Stores.{passage-waited}
+use mathlib.Core.Path.{sym, refl}
+use Rattle.effect.proofs.Stores.{passage-waited, act-stores}
 use lib.Seq.{set-getD}
 use native.Mathlib.Nat.{sub-zero}
 use native.Mathlib.Numerals.{sub-one}
 use native.Mathlib.Omega.{arith}
-use mathlib.Core.Path.{refl}
 use Rattle.effect.proofs.Taken.{on-four}
-use Rattle.effect.proofs.Stores.{sized, act-stores}
 use Rattle.machine.specs.Effects.{cancels}
 use borrow.Author.Tests.{ne-eqb}
 use borrow.Author.Needs.{needs}
@@ -31,7 +29,7 @@ element-write-d c = on-four 2 refl (c .before .before .before .before .pre)
 returns : tie.Need-returns
 returns c =
     let a = c .before .before .before .before in
-    sym (passage-waited (a .args .s) (a .args .t2) (a .args .e) (sized _ _ (a .good .1 .0)) (a .pre .0) (c .before .if1 .taken))
+    sym (passage-waited (a .args .s) (a .args .t2) (a .args .e) _ (a .good .1 .0) (a .pre .0) (c .before .if1 .taken))
 
 sub-d-2 : tie.Need-sub-d-2
 sub-d-2 c = search needs
@@ -43,8 +41,7 @@ returns-2 : tie.Need-returns-2
 unfolding cancels
 returns-2 c =
     let a = c .before .before .before in
-    let z = sized _ _ (a .good .1 .0) in
-    simp (act-stores (a .args .s) (a .args .t2) (a .args .e) z, a .pre .0, ne-eqb _ _ (c .if1 .left), sub-one, sub-zero, set-getD)
+    simp (act-stores (a .args .s) (a .args .t2) (a .args .e) _ (a .good .1 .0), a .pre .0, ne-eqb _ _ (c .if1 .left), sub-one, sub-zero, set-getD)
 
 pub passage-spec : {M : Type 1} → statement M
 passage-spec =

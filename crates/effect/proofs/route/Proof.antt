@@ -1,8 +1,7 @@
-use Rattle.effect.proofs.Stores.{route-set}
+use Rattle.effect.proofs.Stores.{route-set, act-stores}
 use mathlib.Core.Path.{refl, sym}
 use native.Mathlib.Omega.{arith}
 use Rattle.effect.proofs.Taken.{on-four}
-use Rattle.effect.proofs.Stores.{sized, act-stores}
 use Rattle.machine.specs.Effects.{cancels}
 use borrow.Author.Needs.{needs}
 use Rattle.effect.proofs.route.Statement.{statement}
@@ -32,14 +31,13 @@ element-write-d-3 c = on-four 5 refl (c .before .before .before .before .before 
 returns : tie.Need-returns
 returns c =
     let a = c .before .before .before .before .before in
-    sym (route-set (a .args .s) (a .args .t2) (a .args .e) (sized _ _ (a .good .1 .0)) (a .pre .0) (c .before .before .if1 .taken))
+    sym (route-set (a .args .s) (a .args .t2) (a .args .e) _ (a .good .1 .0) (a .pre .0) (c .before .before .if1 .taken))
 
 returns-2 : tie.Need-returns-2
 unfolding cancels
 returns-2 c =
     let a = c .before .before .before in
-    let z = sized _ _ (a .good .1 .0) in
-    simp (act-stores (a .args .s) (a .args .t2) (a .args .e) z, a .pre .0, c .if1 .left)
+    simp (act-stores (a .args .s) (a .args .t2) (a .args .e) _ (a .good .1 .0), a .pre .0, c .if1 .left)
 
 pub route-spec : {M : Type 1} → statement M
 route-spec =

@@ -1,12 +1,11 @@
-use Rattle.machine.specs.Effects.{calls}
+use Rattle.machine.specs.Effects.{calls, cancels}
 use lib.Seq.{set-getD}
 use native.Mathlib.Omega.{arith}
 use native.Mathlib.Nat.{add-zero}
 use mathlib.Core.Bool.{true, false}
 use mathlib.Core.Path.{_≡_, refl}
 use Rattle.effect.proofs.Taken.{on-four}
-use Rattle.effect.proofs.Stores.{sized, act-stores}
-use Rattle.machine.specs.Effects.{cancels}
+use Rattle.effect.proofs.Stores.{act-stores}
 use borrow.Author.Needs.{needs}
 use Rattle.effect.proofs.strike_in.Statement.{statement}
 use Rattle.effect.proofs.strike_in.Tie as tie
@@ -33,9 +32,8 @@ returns : tie.Need-returns
 unfolding cancels
 returns c =
     let a = c .before .before .before .before .before in
-    let z = sized _ _ (a .good .1 .0) in
     let q : calls (a .args .s) (a .args .t2) (a .args .e .place) ≡ true = rw (c .before .before .before .dependent .ensures) at (c .before .if1 .taken) in
-    simp (act-stores (a .args .s) (a .args .t2) (a .args .e) z, a .pre .0, q, add-zero, set-getD)
+    simp (act-stores (a .args .s) (a .args .t2) (a .args .e) _ (a .good .1 .0), a .pre .0, q, add-zero, set-getD)
 
 element-copy-out-d-2 : tie.Need-element-copy-out-d-2
 element-copy-out-d-2 c = on-four 1 refl (c .before .before .before .before .pre)
@@ -50,9 +48,8 @@ returns-2 : tie.Need-returns-2
 unfolding cancels
 returns-2 c =
     let a = c .before .before .before .before .before in
-    let z = sized _ _ (a .good .1 .0) in
     let q : calls (a .args .s) (a .args .t2) (a .args .e .place) ≡ false = rw (c .before .before .before .dependent .ensures) at (c .before .if1 .left) in
-    simp (act-stores (a .args .s) (a .args .t2) (a .args .e) z, a .pre .0, q, add-zero, set-getD)
+    simp (act-stores (a .args .s) (a .args .t2) (a .args .e) _ (a .good .1 .0), a .pre .0, q, add-zero, set-getD)
 
 pub strike-in-spec : {M : Type 1} → statement M
 strike-in-spec =

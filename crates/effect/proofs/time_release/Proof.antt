@@ -1,14 +1,11 @@
-use Rattle.effect.proofs.Stores.{sized, act-stores}
+use Rattle.effect.proofs.Stores.{act-stores}
 use Rattle.machine.specs.Effects.{cancels}
 use Rattle.effect.proofs.time_release.Statement.{statement}
 use Rattle.effect.proofs.time_release.Tie as tie
 
 returns : tie.Need-returns
 unfolding cancels
-returns c =
-    let a = c in
-    let z = sized _ _ (a .good .1 .0) in
-    simp (act-stores (a .args .s) (a .args .c) (a .args .e) z, a .pre)
+returns c = simp (act-stores (c .args .s) (c .args .c) (c .args .e) _ (c .good .1 .0), c .pre)
 
 pub time-release-spec : {M : Type 1} → statement M
 time-release-spec = tie.close (tie.spec returns)

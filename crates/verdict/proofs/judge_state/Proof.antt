@@ -19,8 +19,8 @@ trains-at-requires-2 c κs = search needs
 refuse-if-requires-2 : tie.Need-refuse-if-requires-2
 refuse-if-requires-2 c κs = search needs
 
-any-calling-requires : tie.Need-any-calling-requires
-any-calling-requires c κs = search needs
+held-by-train-requires : tie.Need-held-by-train-requires
+held-by-train-requires c κs = search needs
 
 refuse-if-requires-3 : tie.Need-refuse-if-requires-3
 refuse-if-requires-3 c κs = search needs
@@ -50,7 +50,7 @@ returns-2 c = simp (c .refuse-if2 .ensures, c .before .trains-at2 .ensures, c .b
 
 returns-3 : tie.Need-returns-3
 unfolding state-refusal
-returns-3 c = simp (c .refuse-if3 .ensures, c .before .any-calling .ensures, c .before .before .before .before .match .keys3)
+returns-3 c = simp (c .refuse-if3 .ensures, c .before .held-by-train .ensures, c .before .before .match .keys3)
 
 returns-4 : tie.Need-returns-4
 unfolding state-refusal
@@ -73,7 +73,7 @@ judge-state-spec =
     refuse-if-requires
     trains-at-requires-2
     refuse-if-requires-2
-    any-calling-requires
+    held-by-train-requires
     refuse-if-requires-3
     cast-t
     dependent-requires
