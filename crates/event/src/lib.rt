@@ -2,12 +2,11 @@
 use machine::Answer;
 use machine::Event;
 use machine::Plant;
+use machine::numbers;
 use verdict::Verdict;
 ghost use mathlib.Core.Path.{_≡_};
 ghost use Rattle.machine.specs.Events.{number};
 ghost use Rattle.machine.specs.Step.{step};
-
-const OUT_OF_RANGE: u8 = 15;
 
 // Refused: the number, the plant as it was given and a zero count.
 fn refuse(p: Plant, number: u8) -> Answer
@@ -85,5 +84,5 @@ pub fn handle(p: Plant, e: Event) -> Answer
             Verdict::Refuse(number) => refuse(p, number),
         };
     }
-    refuse(p, OUT_OF_RANGE)
+    refuse(p, numbers::OUT_OF_RANGE)
 }
