@@ -95,13 +95,14 @@ pub fn sum(count: [u8; 4]) -> u16
     wide(count[0]) + wide(count[1]) + wide(count[2]) + wide(count[3])
 }
 
-// The two bytes of a count, low byte first.
+// The low byte of a count.
 pub fn low(x: u16) -> u8
     ensures { λ r. ⌜ r ≡ low x ⌝ }
 {
     (x % 256) as u8
 }
 
+// Its high byte.
 pub fn high(x: u16) -> u8
     ensures { λ r. ⌜ r ≡ high x ⌝ }
 {

@@ -11,6 +11,7 @@ ghost use Rattle.reader.specs.Whole.{Whole};
 // The longest sheet, in events.
 pub const LIMIT: usize = 4096;
 
+// A byte as a wider number.
 fn wide(x: u8) -> usize
     ensures { λ r. ⌜ r ≡ x ⌝ }
     ensures { λ r. ⌜ r ≤ 255 ⌝ }

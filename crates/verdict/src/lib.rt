@@ -55,6 +55,7 @@ fn value_limit(code: u8) -> u8
     }
 }
 
+// A byte as a wider number.
 fn wide(x: u8) -> u16
     ensures { λ r. ⌜ r ≡ x ⌝ }
     ensures { λ r. ⌜ r ≤ 255 ⌝ }
