@@ -9,7 +9,7 @@ ghost use Rattle.machine.specs.Events.{number};
 ghost use Rattle.machine.specs.Step.{step};
 
 // Refused: the number, the plant as it was given and a zero count.
-fn refuse(p: Plant, number: u8) -> Answer
+fn refused(p: Plant, number: u8) -> Answer
     ensures { λ r. ⌜ r ≡ record { number = number; written = 0; plant = p } ⌝ }
 {
     Answer {
@@ -81,8 +81,8 @@ pub fn handle(p: Plant, e: Event) -> Answer
         let v = verdict::judge(site.n, s, c, e);
         return match v {
             Verdict::Take(t) => take(p, t),
-            Verdict::Refuse(number) => refuse(p, number),
+            Verdict::Refuse(number) => refused(p, number),
         };
     }
-    refuse(p, numbers::OUT_OF_RANGE)
+    refused(p, numbers::OUT_OF_RANGE)
 }
