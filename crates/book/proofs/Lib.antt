@@ -1,3 +1,4 @@
 pub mod Parts
 pub mod Bytes
-pub mod RoundTrip
+pub mod Copied
+pub mod ReadBack

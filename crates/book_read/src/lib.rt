@@ -3,6 +3,7 @@ use machine::Entry;
 use machine::Plant;
 use machine::Reading;
 use machine::Site;
+use machine::numbers;
 use settings::count_in;
 use settings::entry_in;
 use settings::refuse;
@@ -13,13 +14,6 @@ ghost use Rattle.machine.specs.Common.{all-below};
 ghost use Rattle.machine.specs.Plant.{no-entry};
 ghost use Rattle.machine.specs.Range.{entry-in};
 ghost use Rattle.machine.specs.SiteBook.{book-entry, book-length, book-site, book-size, no-site, read, read-number};
-
-// The numbers that a book can be refused with.
-const BAD_LENGTH: u8 = 1;
-
-const BAD_COUNT: u8 = 2;
-
-const BAD_SETTING: u8 = 3;
 
 // Entry i of a book. Inside this crate alone: the book has its length and i is below its size.
 fn entry_at(b: &[u8], i: usize) -> Entry
@@ -60,16 +54,20 @@ fn read_number(b: &[u8]) -> u8
     ensures { λ r. ⌜ r ≡ read-number (now (b .entry)) ⌝ }
 {
     if b.len() == 0 {
-        return BAD_LENGTH;
+        return numbers::BAD_BOOK_LENGTH;
     }
     let size = b[0];
     let n = size as usize;
     let counted = count_in(size);
     if b.len() == 1 + 7 * n {
         let ranged = entries_in(b);
-        return refuse(!counted, BAD_COUNT, refuse(!ranged, BAD_SETTING, 0));
+        return refuse(
+            !counted,
+            numbers::BAD_COUNT,
+            refuse(!ranged, numbers::BAD_SETTING, 0),
+        );
     }
-    refuse(!counted, BAD_COUNT, BAD_LENGTH)
+    refuse(!counted, numbers::BAD_COUNT, numbers::BAD_BOOK_LENGTH)
 }
 
 // An all-zero entry.

@@ -2,6 +2,7 @@
 // Any settings and any output are taken; a refused write leaves every lent byte.
 use machine::Entry;
 use machine::Site;
+use machine::numbers;
 use settings::count_in;
 use settings::entry_in;
 use settings::entry_zero;
@@ -24,13 +25,6 @@ ghost use Rattle.machine.specs.SiteBook.{
   write-number,
   written-book,
 };
-
-// The numbers that settings can be refused with.
-const BAD_COUNT: u8 = 2;
-
-const BAD_SETTING: u8 = 3;
-
-const BAD_OUTPUT: u8 = 14;
 
 // The entry at place i of n is in its range; past n it is zero.
 fn setting_in(n: u8, i: usize, x: Entry) -> bool
@@ -69,8 +63,12 @@ fn write_number(s: Site, out: &[u8]) -> u8
     let fits = out.len() == 1 + 7 * n;
     refuse(
         !counted,
-        BAD_COUNT,
-        refuse(!ranged, BAD_SETTING, refuse(!fits, BAD_OUTPUT, 0)),
+        numbers::BAD_COUNT,
+        refuse(
+            !ranged,
+            numbers::BAD_SETTING,
+            refuse(!fits, numbers::BAD_OUTPUT_LENGTH, 0),
+        ),
     )
 }
 

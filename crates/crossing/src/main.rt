@@ -18,12 +18,14 @@ fn load(path: &[u8], buf: &mut [u8]) -> usize
     n
 }
 
+// The line of a refused site or sheet.
 fn print_refused(number: u8) {
     io::write_all(STDOUT_FILENO, b"refused ");
     io::print_decimal(STDOUT_FILENO, number as u64);
     io::write_all(STDOUT_FILENO, b"\n");
 }
 
+// The line of the counts.
 fn print_counts(taken: u16, refused: u16, written: u32) {
     io::write_all(STDOUT_FILENO, b"taken ");
     io::print_decimal(STDOUT_FILENO, taken as u64);
@@ -34,6 +36,7 @@ fn print_counts(taken: u16, refused: u16, written: u32) {
     io::write_all(STDOUT_FILENO, b"\n");
 }
 
+// A byte as a wider number.
 fn wide(x: u8) -> u64 {
     x as u64
 }
@@ -65,6 +68,7 @@ fn print_panel(panel: &[u8], n: u8) {
     }
 }
 
+// All that is printed.
 fn print(r: Outcome, panel: &[u8]) {
     if r.number > 0 {
         print_refused(r.number);

@@ -31,10 +31,6 @@ module _ (q : Plant) (e : Event) where
     unfolding apply
     crossing-after i b = ap (λ a. crossing (a .plant) i) (taken-answer q e zero-number) ∙ getD-tab 8 (λ j. touch (entry q j) j (crossing q j) e) no-crossing i b
 
-    pub taken-site : step q e .plant .site ≡ q .site
-    unfolding apply
-    taken-site = ap (λ a. a .plant .site) (taken-answer q e zero-number)
-
     -- the records past the last crossing hold no train
     pub taken-written : PlantIn q → step q e .written ≡ sum-below (q .site .n) (λ i. written-at (crossing q i) e)
     unfolding written written-at

@@ -20,6 +20,7 @@ use Rattle.machine.specs.Step.{touch, step, after}
 use Rattle.machine.specs.Panel.{row}
 use Rattle.machine.specs.SiteBook.{read}
 use Rattle.machine.proofs.Tools.{by-test, and-both, all-below-same, getD-tab}
+use Rattle.machine.proofs.Taken.{step-site}
 use Rattle.machine.proofs.Ranges.{PlantIn, plant-reads}
 use Rattle.machine.proofs.Laws.{fresh-in-range, panel-at}
 use Rattle.demand.specs.Ledger.{log, boom-report}
@@ -28,7 +29,7 @@ use Rattle.demand.proofs.Unbroken.{stands-now, at-least}
 use Rattle.demand.proofs.Timing.{rests, all-down}
 use Rattle.demand.proofs.Agree.{reason-stands}
 use Rattle.demand.proofs.Each.{Holds, no-timer}
-use Rattle.demand.proofs.Answers.{crossing-after, taken-site, tick-taken}
+use Rattle.demand.proofs.Answers.{crossing-after, tick-taken}
 use Rattle.demand.proofs.Run.{Sound, sound}
 use Rattle.demand.proofs.Shown.{passable-secured, released-secured, right-up, left-up, opened, normal-bit}
 
@@ -80,7 +81,7 @@ module _ (p : Plant) (es : List Event) (k : Sound p es) (i : ℕ) (l : i < p .si
     after-tick up =
         let t = tick-taken q (k .range) in
         let same : entry q i ≡ s = ap (λ x. getD (x .entries) i no-entry) (k .site) in
-        let byte = shows p (step q a-tick .plant) (taken-site q a-tick t ∙ k .site) i 9 l (lit< tt) in
+        let byte = shows p (step q a-tick .plant) (step-site q a-tick ∙ k .site) i 9 l (lit< tt) in
         let now = crossing-after q a-tick t i (omega (arith, range .count, ap (λ x. x .n) (k .site))) in
         rw (byte, now, same) (normal-bit s (settle s 1 (tick s c)) (opened s c at-rest (no-timer-in rests refl refl at-rest) (reason-stands (at .agree) ∙ none) (booms-same (λ x. eqb x 0) ∙ up)))
 

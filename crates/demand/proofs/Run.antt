@@ -14,13 +14,13 @@ use Rattle.machine.specs.Range.{in-range}
 use Rattle.machine.specs.Effects.{written-at}
 use Rattle.machine.specs.Step.{written, step, after, carried}
 use Rattle.machine.proofs.Tools.{by-test, sum-add, sum-same, sum-past}
-use Rattle.machine.proofs.Taken.{taken-accepted}
+use Rattle.machine.proofs.Taken.{step-site, taken-accepted}
 use Rattle.machine.proofs.Ranges.{plant-reads, entry-of}
 use Rattle.machine.proofs.Stays.{stays-in-range}
 use Rattle.demand.specs.Ledger.{taken, note, log, written-off}
 use Rattle.demand.proofs.Lists.{snoc-induction, after-append, carried-append, log-snoc}
 use Rattle.demand.proofs.Each.{Holds, fresh-holds, skipped, touched, written-touched}
-use Rattle.demand.proofs.Answers.{zero-number, crossing-after, taken-site, taken-written, refused-step}
+use Rattle.demand.proofs.Answers.{zero-number, crossing-after, taken-written, refused-step}
 
 -- the trains written off by the ledgers of all crossings
 abbrev all-written : Plant → List Event → ℕ
@@ -72,7 +72,7 @@ module _ (p : Plant) where
         let g = plant-reads q (k .range) in
         let n : q .site .n ≡ p .site .n = ap (λ x. x .n) (k .site) in
         record {
-          site = rw now (taken-site q e t ∙ k .site);
+          site = rw now (step-site q e ∙ k .site);
           range = still-in;
           each = λ i b.
               let l : i < q .site .n = rw n b in

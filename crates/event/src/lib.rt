@@ -2,15 +2,14 @@
 use machine::Answer;
 use machine::Event;
 use machine::Plant;
+use machine::numbers;
 use verdict::Verdict;
 ghost use mathlib.Core.Path.{_≡_};
 ghost use Rattle.machine.specs.Events.{number};
 ghost use Rattle.machine.specs.Step.{step};
 
-const OUT_OF_RANGE: u8 = 15;
-
 // Refused: the number, the plant as it was given and a zero count.
-fn refuse(p: Plant, number: u8) -> Answer
+fn refused(p: Plant, number: u8) -> Answer
     ensures { λ r. ⌜ r ≡ record { number = number; written = 0; plant = p } ⌝ }
 {
     Answer {
@@ -82,8 +81,8 @@ pub fn handle(p: Plant, e: Event) -> Answer
         let v = verdict::judge(site.n, s, c, e);
         return match v {
             Verdict::Take(t) => take(p, t),
-            Verdict::Refuse(number) => refuse(p, number),
+            Verdict::Refuse(number) => refused(p, number),
         };
     }
-    refuse(p, OUT_OF_RANGE)
+    refused(p, numbers::OUT_OF_RANGE)
 }

@@ -77,6 +77,10 @@ book-reads b q =
       entry-test = all-below-at (book-size b) (λ i. entry-in (book-entry b i)) (not-false _ (v3 .0));
     }
 
+pub reading-number : (b : List ℕ) → read b .number ≡ read-number b
+unfolding read
+reading-number b = refl
+
 -- the plant of such a book
 pub read-plant : (b : List ℕ) → read-number b ≡ 0 → read b .plant ≡ fresh-plant (book-site b)
 unfolding read

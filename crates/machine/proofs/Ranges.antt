@@ -1,12 +1,12 @@
 -- What the range tests say, as facts: a test that holds gives its record, and the record gives the test.
-use mathlib.Core.Path.{_≡_, ap}
+use mathlib.Core.Path.{_≡_, sym, ap}
 use mathlib.Core.Bool.{Bool, true, false, not, _&&_, _||_}
 use Prim.Native.Nat.{ℕ, suc, _+_, _^_, _≤_, _<_}
 use native.Mathlib.Omega.{arith}
 use lib.Dec.{eqb, ltb, leb}
 use borrow.Author.Tests.{eqb-true, leb-true, ltb-true, ltb-false, eq-eqb, le-leb, lt-ltb, le-ltb, not-true}
 use Rattle.machine.specs.Common.{all-below}
-use Rattle.machine.specs.Plant.{Entry, Crossing, Plant, release-ticks, overdue-ticks, full, calling, waiting, route, occupied, boom, lamp, trains, entry, crossing, dependent}
+use Rattle.machine.specs.Plant.{Entry, Crossing, Plant, release-ticks, overdue-ticks, full, calling, waiting, route, occupied, boom, lamp, trains, entry, crossing, no-entry, dependent}
 use Rattle.machine.specs.Range.{gap-in, entry-in, entry-zero, track-zero, track-in, boom-in, phase-in, crossing-in, crossing-zero, place-in, count-in, in-range}
 use Rattle.machine.proofs.Tools.{by-test, by-cond, and-both, and-intro, or-right, or-left-false, all-below-intro, all-below-at}
 
@@ -198,14 +198,23 @@ module _ (c : Crossing) where
       (ap not (h .kiosk))) (ap not (h .operator)))
       (eq-eqb _ _ (h .countdown))) (eq-eqb _ _ (h .phase))) (eq-eqb _ _ (h .timer))) (eq-eqb _ _ (h .out))
 
--- an entry past the last crossing has kind 0 and so no boom
-pub zero-kind : (s : Entry) → entry-zero s ≡ true → s .kind ≡ 0
+-- an entry by its fields
+pub entry-by : {k t m p g : ℕ} (x : Entry) → k ≡ x .kind → t ≡ x .tracks → m ≡ x .mask → p ≡ x .pre → g ≡ x .gap → record { kind = k; tracks = t; mask = m; pre = p; gap = g } ≡ x
+entry-by x a b c d e = rw (a, b, c, d, e)
+
+-- an entry past the last crossing is all zero
+pub zero-entry : (x : Entry) → entry-zero x ≡ true → no-entry ≡ x
 unfolding entry-zero
-zero-kind s q =
-    let g = and-both _ (eqb (s .gap) 0) q in
-    let f = and-both _ (eqb (s .pre) 0) (g .0) in
-    let m = and-both _ (eqb (s .mask) 0) (f .0) in
-    eqb-true _ _ (and-both (eqb (s .kind) 0) (eqb (s .tracks) 0) (m .0) .0)
+zero-entry x q =
+    let g = and-both _ (eqb (x .gap) 0) q in
+    let p = and-both _ (eqb (x .pre) 0) (g .0) in
+    let m = and-both _ (eqb (x .mask) 0) (p .0) in
+    let t = and-both (eqb (x .kind) 0) (eqb (x .tracks) 0) (m .0) in
+    entry-by x (sym (eqb-true _ _ (t .0))) (sym (eqb-true _ _ (t .1))) (sym (eqb-true _ _ (m .1))) (sym (eqb-true _ _ (p .1))) (sym (eqb-true _ _ (g .1)))
+
+-- so it has kind 0 and no boom
+pub zero-kind : (s : Entry) → entry-zero s ≡ true → s .kind ≡ 0
+zero-kind s q = sym (ap (λ x. x .kind) (zero-entry s q))
 
 -- The plant ------------------------------------------------------------------------------------------------------------------------
 pub record PlantIn (p : Plant) : Type 0 where

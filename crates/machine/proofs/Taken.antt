@@ -27,6 +27,13 @@ answer-number p e = by-test (eqb (number p e) 0)
     (λ q. let z = eqb-true _ _ q in ap (λ a. a .number) (taken-answer p e z) ∙ sym z)
     (λ q. ap (λ a. a .number) (refused-answer p e (eqb-false _ _ q)))
 
+-- an event leaves the site
+pub step-site : (p : Plant) (e : Event) → step p e .plant .site ≡ p .site
+unfolding apply
+step-site p e = by-test (eqb (number p e) 0)
+    (λ q. rw (taken-answer p e (eqb-true _ _ q)))
+    (λ q. rw (refused-answer p e (eqb-false _ _ q)))
+
 -- What a taken event passed, as far as the laws ask ------------------------------------------------------------------------------
 pub record Accepted (n : ℕ) (s : Entry) (c : Crossing) (e : Event) : Type 0 where
   pub code : e .code ≤ 9

@@ -11,7 +11,7 @@ use Rattle.machine.specs.Events.{Event, is, is-to, is-at}
 abbrev pub calls : Entry → Crossing → ℕ → Bool
 calls s c t = not (dependent s t) || route c t
 
--- strike-in: calling + 1 or waiting + 1; passage: calling - 1, or waiting - 1 where calling is 0; setting a route moves all waiting to calling
+-- calling on track t: strike-in + 1 where it calls; passage - 1; setting a route adds all waiting
 unfoldable pub calling-after : Entry → Crossing → Event → ℕ → ℕ
 calling-after s c e t =
     cond (is-at 1 t e) (calling c t + bit (calls s c t) 1)
@@ -19,6 +19,7 @@ calling-after s c e t =
     (cond (is-at 5 t e && eqb (e .value) 1) (calling c t + waiting c t)
     (calling c t)))
 
+-- waiting on track t: strike-in + 1 where it does not call; passage - 1 where calling is 0; setting a route leaves none
 unfoldable pub waiting-after : Entry → Crossing → Event → ℕ → ℕ
 waiting-after s c e t =
     cond (is-at 1 t e) (waiting c t + bit (not (calls s c t)) 1)
@@ -30,6 +31,7 @@ waiting-after s c e t =
 unfoldable pub cancels : Event → Bool
 cancels e = is 1 e || is-to 3 1 e || is-to 4 1 e || is-to 5 1 e || is-to 6 1 e
 
+-- what an event of codes 1 to 9 makes of its own crossing, field by field
 unfoldable pub act : Entry → Crossing → Event → Crossing
 act s c e = record {
   calling = tab 4 (calling-after s c e);
@@ -51,13 +53,15 @@ act s c e = record {
 abbrev pub releases : Crossing → Bool
 releases c = eqb (c .countdown) 1
 
--- timer at 0: phase 1 goes to 2 with timer G for kind 4, otherwise to 3; phase 2 goes to 3
+-- a timer that runs out in phase 1 of kind 4 leads to phase 2
 abbrev pub to-gap : Entry → ℕ → Bool
 to-gap s phase = eqb phase 1 && eqb (s .kind) 4
 
+-- timer at 0: phase 1 goes to 2 for kind 4, otherwise to 3; phase 2 goes to 3
 unfoldable pub phase-ticked : Entry → ℕ → ℕ → ℕ
 phase-ticked s phase timer = cond (eqb timer 1) (cond (to-gap s phase) 2 3) phase
 
+-- the timer by 1; at 0, timer G where phase 2 begins
 unfoldable pub timer-ticked : Entry → ℕ → ℕ → ℕ
 timer-ticked s phase timer = cond (eqb timer 1) (bit (to-gap s phase) (s .gap)) (pred timer)
 

@@ -8,13 +8,15 @@ use Rattle.machine.specs.Numbers.{unknown-code, unknown-crossing, unknow
 use Rattle.machine.specs.Plant.{Entry, Crossing, Plant, full, calling, route, occupied, trains, entry, crossing, dependent, boom-count}
 use Rattle.machine.specs.Range.{in-range}
 
--- an event of this code; of this code and value; of this code at this track, boom or lamp
+-- an event of this code
 abbrev pub is : ℕ → Event → Bool
 is k e = eqb (e .code) k
 
+-- an event of this code and value
 abbrev pub is-to : ℕ → ℕ → Event → Bool
 is-to k v e = is k e && eqb (e .value) v
 
+-- an event of this code at this track, boom or lamp
 abbrev pub is-at : ℕ → ℕ → Event → Bool
 is-at k place e = is k e && eqb (e .place) place
 
@@ -27,13 +29,15 @@ abbrev pub on-off : ℕ → Bool
 on-off code = eqb code 3 || eqb code 4 || eqb code 5 || eqb code 6 || eqb code 9
 
 -- The table: a field is below its limit, and a field marked - is below 1
--- a tick is of the whole plant
+-- crossing: any of the plant's; a tick is of the whole plant
 abbrev pub crossing-limit : ℕ → ℕ → ℕ
 crossing-limit n code = cond (eqb code 0) 1 n
 
+-- place: a track, a boom or one of five lamps, by the code
 unfoldable pub place-limit : Entry → ℕ → ℕ
 place-limit s code = cond (on-track code) (s .tracks) (cond (eqb code 8) (boom-count (s .kind)) (cond (eqb code 9) 5 1))
 
+-- value: a boom reports 0 to 2; holds, routes, approaches and lamps 0 or 1
 unfoldable pub value-limit : ℕ → ℕ
 value-limit code = cond (eqb code 8) 3 (cond (on-off code) 2 1)
 

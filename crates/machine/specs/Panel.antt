@@ -25,10 +25,11 @@ signal s c = cond (secured s c) (bit (lamp c 3) 2) (bit (lamp c 2) 1)
 unfoldable pub distant : Entry → Crossing → ℕ
 distant s c = cond (eqb (signal s c) 2) 2 1
 
--- slow rhythm, lit at beat 0; fast, lit at beats 0 and 2; flasher dead: steady
+-- slow rhythm, lit at beat 0; flasher dead: steady
 abbrev pub slow : ℕ → Bool → Bool
 slow beat flasher = not flasher || eqb beat 0
 
+-- fast rhythm, lit at beats 0 and 2; flasher dead: steady
 abbrev pub fast : ℕ → Bool → Bool
 fast beat flasher = not flasher || (eqb beat 0 || eqb beat 2)
 
@@ -53,17 +54,19 @@ bell s c = bit (not (normal s c) && not (has-booms s && booms-down (s .kind) (bo
 unfoldable pub boom-lamps : Entry → Crossing → ℕ
 boom-lamps s c = bit (not (normal s c) && has-booms s) 1
 
--- bytes 4 and 5, order down: right in phases 2 and 3, left in phase 3 of kind 4; 0 for kind 1
+-- byte 4, order down, right: phases 2 and 3; 0 for kind 1
 unfoldable pub right-down : Entry → Crossing → ℕ
 right-down s c = bit (has-booms s && (eqb (c .phase) 2 || eqb (c .phase) 3)) 1
 
+-- byte 5, order down, left: phase 3, kind 4
 unfoldable pub left-down : Entry → Crossing → ℕ
 left-down s c = bit (eqb (s .kind) 4 && eqb (c .phase) 3) 1
 
--- byte 8, main signals released: bit t where t is dependent, its route set, secured
+-- the main signal of track t is released: t is dependent, its route set, secured
 unfoldable pub released : Entry → Crossing → ℕ → Bool
 released s c t = dependent s t && route c t && secured s c
 
+-- byte 8, main signals released: bit t for track t
 unfoldable pub releases-shown : Entry → Crossing → ℕ
 releases-shown s c = bit (released s c 0) 1 + bit (released s c 1) 2 + bit (released s c 2) 4 + bit (released s c 3) 8
 

@@ -23,28 +23,35 @@ abbrev pub full : ℕ
 full = 255
 
 -- How a record is read -----------------------------------------------------------------------------------------------------------
+-- trains calling on track t
 abbrev pub calling : Crossing → ℕ → ℕ
 calling c t = getD (c .calling) t 0
 
+-- trains waiting on track t
 abbrev pub waiting : Crossing → ℕ → ℕ
 waiting c t = getD (c .waiting) t 0
 
+-- the route of track t is set
 abbrev pub route : Crossing → ℕ → Bool
 route c t = getD (c .route) t false
 
+-- the approach of track t is occupied
 abbrev pub occupied : Crossing → ℕ → Bool
 occupied c t = getD (c .occupied) t false
 
+-- the last report of boom b: 0 up, 1 moving, 2 down
 abbrev pub boom : Crossing → ℕ → ℕ
 boom c b = getD (c .booms) b 0
 
+-- the last report of lamp l: it is whole
 abbrev pub lamp : Crossing → ℕ → Bool
 lamp c l = getD (c .lamps) l false
 
--- the trains of a track, and of a crossing
+-- the trains of track t
 abbrev pub trains : Crossing → ℕ → ℕ
 trains c t = calling c t + waiting c t
 
+-- the trains of a crossing
 abbrev pub total : Crossing → ℕ
 total c = sum4 (trains c)
 
@@ -69,12 +76,15 @@ fresh-crossing used = record {
   out = 0;
 }
 
+-- all zero: a record past the last crossing
 abbrev pub no-crossing : Crossing
 no-crossing = fresh-crossing false
 
+-- the settings of crossing i
 abbrev pub entry : Plant → ℕ → Entry
 entry p i = getD (p .site .entries) i no-entry
 
+-- the record of crossing i
 abbrev pub crossing : Plant → ℕ → Crossing
 crossing p i = getD (p .crossings) i no-crossing
 
@@ -99,6 +109,7 @@ each-boom kind f = all-below 4 (λ b. leb (boom-count kind) b || f b)
 abbrev pub reason-of : Bool → Bool → (ℕ → ℕ) → Bool
 reason-of kiosk operator calling = kiosk || operator || any-below 4 (λ t. ltb 0 (calling t))
 
+-- the reason of a crossing
 unfoldable pub reason : Crossing → Bool
 reason c = reason-of (c .kiosk) (c .operator) (calling c)
 

@@ -21,6 +21,7 @@ timer-settled pre phase next timer = cond (eqb next phase) timer (bit (eqb next 
 unfoldable pub out-settled : Bool → ℕ → ℕ → ℕ
 out-settled normal add out = cond normal 0 (cond (leb out overdue-ticks) (out + add) (suc overdue-ticks))
 
+-- a crossing with phase, timer and ticks out of normal as given
 abbrev pub with-phase : Crossing → ℕ → ℕ → ℕ → Crossing
 with-phase c phase timer out = record {
   calling = c .calling;
@@ -37,7 +38,7 @@ with-phase c phase timer out = record {
   out = out;
 }
 
--- `add` is 1 on a tick, otherwise 0
+-- a crossing after it settles; `add` is 1 on a tick, otherwise 0
 unfoldable pub settle : Entry → ℕ → Crossing → Crossing
 settle s add c =
     let up = booms-up (s .kind) (boom c) in

@@ -10,14 +10,15 @@ use Rattle.machine.specs.Numbers.{bad-book-length, bad-count, bad-settin
 use Rattle.machine.specs.Plant.{Entry, Site, no-entry, fresh-plant}
 use Rattle.machine.specs.Range.{entry-in, entry-zero, count-in}
 
--- the size n, one byte; length 1 + 7n
+-- the size n, one byte
 abbrev pub book-size : List ℕ → ℕ
 book-size b = byte b 0
 
+-- length 1 + 7n
 abbrev pub book-length : ℕ → ℕ
 book-length n = 1 + 7 * n
 
--- First array, 3 bytes each: kind, tracks, mask. Second array, 4 bytes each: F and G, low byte first
+-- entry i: its three bytes of the first array, its four of the second
 unfoldable pub book-entry : List ℕ → ℕ → Entry
 book-entry b i =
     let first = 1 + 3 * i in
@@ -45,16 +46,19 @@ no-site = record { n = 0; entries = tab 8 (λ i. no-entry) }
 unfoldable pub read : List ℕ → Reading
 read b = record { number = read-number b; plant = fresh-plant (cond (eqb (read-number b) 0) (book-site b) no-site) }
 
--- Writing takes settings alone and a lent output
+-- Writing takes settings alone: the entry at place i
 abbrev pub setting : Site → ℕ → Entry
 setting s i = getD (s .entries) i no-entry
 
+-- First array, 3 bytes each: kind, tracks, mask
 unfoldable pub first-part : Entry → List ℕ
 first-part x = x .kind ∷ x .tracks ∷ x .mask ∷ []
 
+-- Second array, 4 bytes each: F and G, 16 bits, low byte first
 unfoldable pub second-part : Entry → List ℕ
 second-part x = low (x .pre) ∷ high (x .pre) ∷ low (x .gap) ∷ high (x .gap) ∷ []
 
+-- n, then the two parallel arrays of n entries
 unfoldable pub book : Site → List ℕ
 book s = s .n ∷ (concat-below (s .n) (λ i. first-part (setting s i)) ++ concat-below (s .n) (λ i. second-part (setting s i)))
 

@@ -1,5 +1,7 @@
 // The types of the crossing engine (document 01, "What the plant holds") and the fresh plant.
 // What each event does and what each panel byte shows is defined in specs/.
+pub mod numbers;
+
 ghost use mathlib.Core.Path.{_≡_};
 ghost use Rattle.machine.specs.Plant.{fresh-crossing, fresh-plant};
 

@@ -1,5 +1,6 @@
 // The panel: a row for each crossing, drawn into a lent output (document 01, "Panel").
 use machine::Plant;
+use machine::numbers;
 ghost use mathlib.Core.Path.{_≡_};
 ghost use Prim.Native.Nat.{_+_, _*_, _≤_};
 ghost use lib.ListN.{length};
@@ -46,7 +47,7 @@ pub fn draw(p: Plant, out: &mut [u8]) -> u8
             fill(p, out);
             return 0;
         }
-        return 14;
+        return numbers::BAD_OUTPUT_LENGTH;
     }
-    15
+    numbers::OUT_OF_RANGE
 }

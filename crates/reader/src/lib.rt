@@ -1,6 +1,7 @@
 // The event sheet: its size, its number, and a reader that hands out the event at a place (document 01, "Event sheet and
 // program"). The checker covers no function with a struct that holds a slice, so the last three here are proved by hand.
 use machine::Event;
+use machine::numbers;
 ghost use mathlib.Core.Path.{_≡_};
 ghost use Prim.Native.Nat.{_≤_, _<_};
 ghost use lib.ListN.{length};
@@ -24,13 +25,17 @@ pub fn number(sheet: &[u8]) -> u8
     ensures { λ r. ⌜ r ≡ sheet-number (now (sheet .entry)) 0 ⌝ }
 {
     if sheet.len() < 2 {
-        return 4;
+        return numbers::BAD_SHEET_LENGTH;
     }
     let m = size(sheet);
     if LIMIT < m {
-        return 2;
+        return numbers::BAD_COUNT;
     }
-    if sheet.len() == 2 + 4 * m { 0 } else { 4 }
+    if sheet.len() == 2 + 4 * m {
+        0
+    } else {
+        numbers::BAD_SHEET_LENGTH
+    }
 }
 
 // The work: event k of a whole sheet of m events. Inside this crate alone.

@@ -14,14 +14,10 @@ use Rattle.machine.specs.Common.{refuse}
 use Rattle.machine.specs.Panel.{panel}
 use Rattle.machine.specs.SiteBook.{read, read-number}
 use Rattle.machine.specs.Sheet.{sheet-size, sheet-event, sheet-number, ran, counted, run, run-panel}
-use Rattle.machine.proofs.Laws.{fresh-in-range}
+use Rattle.machine.proofs.Laws.{reading-number, fresh-in-range}
 use Rattle.reader.proofs.Numbers.{sheet-passes, sheet-refuses}
 use Rattle.sheet.proofs.Calls.{number-taken, run-taken}
 use Rattle.report.specs.Report.{size, run-of, report-number, refused, counts, report, drawn, report-panel}
-
-pub read-gives : (b : List ℕ) → read b .number ≡ read-number b
-unfolding read
-read-gives b = refl
 
 pub ran-number : (p : Plant) (f : ℕ → Event) (k : ℕ) → ran p f k .number ≡ 0
 unfolding ran counted
@@ -70,7 +66,7 @@ module _ (site sheet lent : List ℕ) where
       → (record { number = y .number; n = x .plant .site .n; taken = y .taken; refused = y .refused; written = y .written } ≡ report site sheet lent)
       × (last ++ drop k lent ≡ report-panel site sheet lent)
   report-run x y k last e z s m l r b =
-      let q : read-number site ≡ 0 = sym (read-gives site) ∙ sym (ap (λ v. v .number) e) ∙ z in
+      let q : read-number site ≡ 0 = sym (reading-number site) ∙ sym (ap (λ v. v .number) e) ∙ z in
       let n : k ≡ 16 * size site = m ∙ ap (λ v. 16 * v .plant .site .n) e in
       let h = part-run (take k lent) q s (length-take k lent ∙ omega arith ∙ n) in
       let t = report-taken (number-none q s (subst (λ v. v ≤ length lent) n l)) in

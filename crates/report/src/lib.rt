@@ -1,4 +1,5 @@
 // What the program prints, worked out from the bytes of its two files (document 01, "Event sheet and program").
+use machine::numbers;
 ghost use mathlib.Core.Path.{_≡_};
 ghost use Rattle.report.specs.Report.{refused, report, report-panel};
 
@@ -49,7 +50,7 @@ pub fn report(site: &[u8], sheet: &[u8], panel: &mut [u8]) -> Outcome
                     written: r.written,
                 };
             }
-            return refused(14);
+            return refused(numbers::BAD_OUTPUT_LENGTH);
         }
         return refused(own);
     }

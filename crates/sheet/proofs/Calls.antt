@@ -5,17 +5,15 @@ use mathlib.Core.List.{List}
 use Prim.Native.Nat.{ℕ, zero, suc, _*_}
 use lib.Dec.{eqb}
 use lib.ListN.{length}
-use borrow.Author.Tests.{eqb-true, eqb-false, eq-eqb, ne-eqb}
+use borrow.Author.Tests.{eq-eqb, ne-eqb}
 use Rattle.machine.specs.declared.Plant.{Plant}
 use Rattle.machine.specs.declared.Event.{Event}
 use Rattle.machine.specs.Common.{refuse}
 use Rattle.machine.specs.Range.{in-range}
 use Rattle.machine.specs.Events.{number}
-use Rattle.machine.specs.Step.{apply, step}
 use Rattle.machine.specs.Panel.{panel}
 use Rattle.machine.specs.Sheet.{sheet-size, sheet-event, sheet-number, run-number, counted, ran, run, run-panel}
-use Rattle.machine.proofs.Tools.{by-test}
-use Rattle.machine.proofs.Taken.{taken-answer, refused-answer}
+use Rattle.machine.proofs.Taken.{step-site}
 use Rattle.reader.proofs.Numbers.{sheet-passes, sheet-refuses}
 
 module _ (p : Plant) (s lent : List ℕ) where
@@ -47,13 +45,6 @@ module _ (p : Plant) (s lent : List ℕ) where
   pub run-taken : run-number p s lent ≡ 0 → (ran p (sheet-event s) (sheet-size s) ≡ run p s lent) × (panel (ran p (sheet-event s) (sheet-size s) .plant) ≡ run-panel p s lent)
   unfolding run run-panel
   run-taken q = (rw q, rw q)
-
--- an event leaves the site
-step-site : (p : Plant) (e : Event) → step p e .plant .site ≡ p .site
-unfolding apply
-step-site p e = by-test (eqb (number p e) 0)
-    (λ q. rw (taken-answer p e (eqb-true _ _ q)))
-    (λ q. rw (refused-answer p e (eqb-false _ _ q)))
 
 pub ran-site : (p : Plant) (f : ℕ → Event) (k : ℕ) → ran p f k .plant .site ≡ p .site
 unfolding ran counted

@@ -3,6 +3,7 @@ use machine::Crossing;
 use machine::Plant;
 use machine::Run;
 use machine::Site;
+use machine::numbers;
 use verdict::Verdict;
 ghost use mathlib.Core.Bool.{true};
 ghost use mathlib.Core.Path.{_≡_};
@@ -102,9 +103,9 @@ pub fn run(p: Plant, sheet: &[u8], panel: &mut [u8]) -> Run
                 panel::fill(last, panel);
                 return r;
             }
-            return refused(p, 14);
+            return refused(p, numbers::BAD_OUTPUT_LENGTH);
         }
         return refused(p, own);
     }
-    refused(p, 15)
+    refused(p, numbers::OUT_OF_RANGE)
 }

@@ -1,4 +1,4 @@
--- A record past the last crossing: a tick leaves it as it is, and writes nothing off there.
+-- A tick that leaves a record as it is: where nothing runs and, with nothing written off, past the last crossing.
 use mathlib.Core.Path.{_≡_, refl}
 use mathlib.Core.List.{List, [], _∷_}
 use Prim.Native.Nat.{ℕ, zero, suc}

@@ -17,6 +17,7 @@ abbrev pub number-of : Verdict → ℕ
 number-of (Take e) = 0
 number-of (Refuse number) = number
 
+-- the first verdict where the test holds, otherwise the second
 abbrev pick : Bool → Verdict → Verdict → Verdict
 pick true a b = a
 pick false a b = b

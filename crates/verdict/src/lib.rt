@@ -2,6 +2,7 @@
 use machine::Crossing;
 use machine::Entry;
 use machine::Event;
+use machine::numbers;
 ghost use mathlib.Core.Bool.{_&&_};
 ghost use mathlib.Core.Path.{_≡_};
 ghost use Prim.Native.Nat.{_≤_};
@@ -10,24 +11,6 @@ ghost use Rattle.machine.specs.Common.{refuse};
 ghost use Rattle.machine.specs.Plant.{trains};
 ghost use Rattle.machine.specs.Events.{crossing-limit, place-limit, value-limit, any-calling, blocked, refusal};
 ghost use Rattle.verdict.specs.Cases.{number-of, verdict, state-refusal};
-
-const UNKNOWN_CODE: u8 = 5;
-
-const UNKNOWN_CROSSING: u8 = 6;
-
-const UNKNOWN_PLACE: u8 = 7;
-
-const UNKNOWN_VALUE: u8 = 8;
-
-const TRACK_FULL: u8 = 9;
-
-const NO_TRAIN: u8 = 10;
-
-const TRAIN_CALLING: u8 = 11;
-
-const NOT_CLEAR: u8 = 12;
-
-const NOT_DEPENDENT: u8 = 13;
 
 // The event that is taken, or the number that refuses it.
 pub enum Verdict {
@@ -72,6 +55,7 @@ fn value_limit(code: u8) -> u8
     }
 }
 
+// A byte as a wider number.
 fn wide(x: u8) -> u16
     ensures { λ r. ⌜ r ≡ x ⌝ }
     ensures { λ r. ⌜ r ≤ 255 ⌝ }
@@ -127,14 +111,18 @@ fn judge_state(s: Entry, c: Crossing, e: Event) -> Verdict
 {
     let code = e.code;
     match code {
-        1 => refuse_if(wide(Crossing::FULL) <= trains_at(c, e.place), TRACK_FULL, e),
-        2 => refuse_if(trains_at(c, e.place) == 0, NO_TRAIN, e),
-        4 => refuse_if(held_by_train(c, e.value), TRAIN_CALLING, e),
+        1 => refuse_if(
+            wide(Crossing::FULL) <= trains_at(c, e.place),
+            numbers::TRACK_FULL,
+            e,
+        ),
+        2 => refuse_if(trains_at(c, e.place) == 0, numbers::NO_TRAIN, e),
+        4 => refuse_if(held_by_train(c, e.value), numbers::TRAIN_CALLING, e),
         5 => {
             let t = e.place as usize;
-            refuse_if(!kind::dependent(s, t), NOT_DEPENDENT, e)
+            refuse_if(!kind::dependent(s, t), numbers::NOT_DEPENDENT, e)
         }
-        7 => refuse_if(blocked(c), NOT_CLEAR, e),
+        7 => refuse_if(blocked(c), numbers::NOT_CLEAR, e),
         _ => Verdict::Take(e),
     }
 }
@@ -146,16 +134,16 @@ pub fn judge(n: u8, s: Entry, c: Crossing, e: Event) -> Verdict
     ensures { λ r. ⌜ number-of r ≡ refusal n s c e ⌝ }
 {
     if 9 < e.code {
-        return Verdict::Refuse(UNKNOWN_CODE);
+        return Verdict::Refuse(numbers::UNKNOWN_CODE);
     }
     if crossing_limit(n, e.code) <= e.crossing {
-        return Verdict::Refuse(UNKNOWN_CROSSING);
+        return Verdict::Refuse(numbers::UNKNOWN_CROSSING);
     }
     if place_limit(s, e.code) <= e.place {
-        return Verdict::Refuse(UNKNOWN_PLACE);
+        return Verdict::Refuse(numbers::UNKNOWN_PLACE);
     }
     if value_limit(e.code) <= e.value {
-        return Verdict::Refuse(UNKNOWN_VALUE);
+        return Verdict::Refuse(numbers::UNKNOWN_VALUE);
     }
     judge_state(s, c, e)
 }

@@ -1,7 +1,8 @@
 use mathlib.Core.Path.{_≡_, sym, _∙_, ap}
 use Prim.Native.Nat.{ℕ}
 use Rattle.machine.specs.SiteBook.{read-number}
-use Rattle.book.proofs.RoundTrip.{copies, copy-refused, number-of}
+use Rattle.machine.proofs.Laws.{reading-number}
+use Rattle.book.proofs.Copied.{copies, copy-refused}
 use borrow.Author.Needs.{needs}
 use Rattle.book.proofs.copy.Statement.{statement}
 use Rattle.book.proofs.copy.Tie as tie
@@ -20,7 +21,7 @@ returns c =
     let b = c .before .before .before .before .before .before .before .before .before .before .args .b .now in
     let o = c .before .before .before .before .before .before .before .before .before .before .args .out .now in
     let e = c .before .before .before .before .before .before .before .read .ensures in
-    let q : read-number b ≡ 0 = sym (ap {B = ℕ} (λ r. r .number) e ∙ number-of b) ∙ c .before .before .before .before .before .before .if1 .taken in
+    let q : read-number b ≡ 0 = sym (ap {B = ℕ} (λ r. r .number) e ∙ reading-number b) ∙ c .before .before .before .before .before .before .if1 .taken in
     let w = c .before .before .write .ensures in
     let p = copies b (λ k. c .before .before .before .before .before .before .before .before .before .shared-slice-known .given k .fits) q o in
     (w .0 ∙ rw e (p .0), w .1 ∙ rw e (p .1))
@@ -29,7 +30,7 @@ returns-2 : tie.Need-returns-2
 returns-2 c =
     let b = c .before .before .before .before .args .b .now in
     let o = c .before .before .before .before .args .out .now in
-    let e = ap {B = ℕ} (λ r. r .number) (c .before .read .ensures) ∙ number-of b in
+    let e = ap {B = ℕ} (λ r. r .number) (c .before .read .ensures) ∙ reading-number b in
     let p = copy-refused b o (λ z. c .if1 .left (e ∙ z)) in
     (e ∙ p .0, p .1)
 

@@ -3,7 +3,7 @@ use lib.ListN.{length, length-map}
 use Rattle.machine.specs.declared.Reading.{Reading}
 use Rattle.machine.specs.SiteBook.{read, write-number}
 use Rattle.book_write.proofs.Accepted.{written-taken}
-use Rattle.book.proofs.RoundTrip.{reading-back, reread-refused}
+use Rattle.book.proofs.ReadBack.{reading-back, reread-refused}
 use borrow.Author.Needs.{needs}
 use Rattle.book.proofs.reread.Statement.{statement}
 use Rattle.book.proofs.reread.Tie as tie

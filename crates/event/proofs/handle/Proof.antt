@@ -52,8 +52,8 @@ take-requires c κs =
 enum-known-v-2 : tie.Need-enum-known-v-2
 enum-known-v-2 c = search needs
 
-refuse-requires : tie.Need-refuse-requires
-refuse-requires c κs = search needs
+refused-requires : tie.Need-refused-requires
+refused-requires c κs = search needs
 
 returns : tie.Need-returns
 returns c =
@@ -77,10 +77,10 @@ returns-2 c =
     let j : c .before .before .before .before .judge .result ≡ verdict (number p e) e = rw (judged p e len q) at (c .before .before .before .before .judge .ensures .0) in
     let k = c .before .before .v2 .given .1 in
     let h = refused-by (number p e) (c .before .before .v2 .given .0 .0) e (sym j ∙ k) in
-    c .refuse .ensures ∙ sym (rw (h .0) at (refused-answer p e (h .1)))
+    c .refused .ensures ∙ sym (rw (h .0) at (refused-answer p e (h .1)))
 
-refuse-requires-2 : tie.Need-refuse-requires-2
-refuse-requires-2 c κs = search needs
+refused-requires-2 : tie.Need-refused-requires-2
+refused-requires-2 c κs = search needs
 
 returns-3 : tie.Need-returns-3
 returns-3 c =
@@ -90,7 +90,7 @@ returns-3 c =
     let q : in-range p ≡ false = sym (c .before .before .in-range .ensures) ∙ c .before .if1 .left in
     let s = number-spoilt p e q in
     let n : number p e ≡ 0 → ⊥ = (λ z. omega arith) in
-    c .refuse2 .ensures ∙ sym (simp s at (refused-answer p e n))
+    c .refused2 .ensures ∙ sym (simp s at (refused-answer p e n))
 
 pub handle-spec : {M : Type 1} → statement M
 handle-spec =
@@ -106,8 +106,8 @@ handle-spec =
     enum-known-v
     take-requires
     enum-known-v-2
-    refuse-requires
+    refused-requires
     returns
     returns-2
-    refuse-requires-2
+    refused-requires-2
     returns-3)

@@ -3,7 +3,8 @@ use Prim.Native.Nat.{ℕ, _*_, _-_, _<_}
 use lib.ListN.{length}
 use native.Mathlib.Nat.{sub-zero}
 use native.Mathlib.Omega.{arith}
-use Rattle.report.proofs.Cases.{read-gives, number-site, number-sheet, number-short, report-refused, report-run}
+use Rattle.machine.proofs.Laws.{reading-number}
+use Rattle.report.proofs.Cases.{number-site, number-sheet, number-short, report-refused, report-run}
 use borrow.Author.Needs.{needs}
 use Rattle.report.proofs.report.Statement.{statement}
 use Rattle.report.proofs.report.Tie as tie
@@ -50,7 +51,7 @@ returns-2 : tie.Need-returns-2
 returns-2 c =
     let a = c .before .before .before .before .before .before .before .before .before .before .before .args in
     let e = c .before .before .before .before .before .before .before .read .ensures in
-    let q = sym (read-gives (a .site .now)) ∙ sym (ap {B = ℕ} (λ v. v .number) e) ∙ c .before .before .before .before .before .before .if1 .taken in
+    let q = sym (reading-number (a .site .now)) ∙ sym (ap {B = ℕ} (λ v. v .number) e) ∙ c .before .before .before .before .before .before .if1 .taken in
     let own = sym (c .before .before .before .before .before .number .ensures) ∙ c .before .before .before .before .if2 .taken in
     let t = report-refused (a .site .now) (a .sheet .now) (a .panel .now) 14 (number-short _ _ _ q own (subst (λ v. length (a .panel .now) < 16 * v .plant .site .n) e (c .before .if3 .left))) (λ z. omega arith) in
     (c .refused .ensures ∙ t .0, t .1)
@@ -61,7 +62,7 @@ refused-requires-2 c κs = search needs
 returns-3 : tie.Need-returns-3
 returns-3 c =
     let a = c .before .before .before .before .before .before .before .before .args in
-    let q = sym (read-gives (a .site .now)) ∙ sym (ap {B = ℕ} (λ v. v .number) (c .before .before .before .before .read .ensures)) ∙ c .before .before .before .if1 .taken in
+    let q = sym (reading-number (a .site .now)) ∙ sym (ap {B = ℕ} (λ v. v .number) (c .before .before .before .before .read .ensures)) ∙ c .before .before .before .if1 .taken in
     let own = c .before .before .number .ensures in
     let t = report-refused (a .site .now) (a .sheet .now) (a .panel .now) _ (number-sheet _ _ _ q (λ z. c .before .if2 .left (own ∙ z)) ∙ sym own) (c .before .if2 .left) in
     (c .refused2 .ensures ∙ t .0, t .1)
@@ -72,7 +73,7 @@ refused-requires-3 c κs = search needs
 returns-4 : tie.Need-returns-4
 returns-4 c =
     let a = c .before .before .before .before .before .before .args in
-    let e = ap {B = ℕ} (λ v. v .number) (c .before .before .read .ensures) ∙ read-gives (a .site .now) in
+    let e = ap {B = ℕ} (λ v. v .number) (c .before .before .read .ensures) ∙ reading-number (a .site .now) in
     let t = report-refused (a .site .now) (a .sheet .now) (a .panel .now) _ (number-site _ _ _ (λ z. c .before .if1 .left (e ∙ z)) ∙ sym e) (c .before .if1 .left) in
     (c .refused3 .ensures ∙ t .0, t .1)
 
