@@ -81,18 +81,23 @@ impl Pair<'_> {
         let other = self.second.event(&mut other_plant, e);
         seen.event(&before, e, answer, plant);
         same("number and written off", &answer, &other)?;
+        if answer.0 != 0 {
+            same_plant(&before, &other_plant)?;
+        }
         same_plant(plant, &other_plant)
     }
 
     /// One panel, into `frame`.
     fn draw(&self, plant: &Plant, frame: &mut [u8], seen: &mut Coverage) -> Check {
-        let mut other_frame = frame.to_vec();
+        let lent = frame.to_vec();
+        let mut other_frame = lent.clone();
         let number = self.first.draw(plant, frame);
         let other = self.second.draw(plant, &mut other_frame);
         seen.call(Call::Draw, number);
         same("number of a panel", &number, &other)?;
-        if number == 0 {
-            seen.panel(plant, frame);
+        match number {
+            0 => seen.panel(plant, frame),
+            _ => same_bytes("panel of a refused call", &lent, &other_frame)?,
         }
         same_bytes("panel", frame, &other_frame)
     }
@@ -105,6 +110,10 @@ impl Pair<'_> {
         let other = self.second.run(&mut other_after, sheet, &mut other_panel);
         seen.call(Call::Run, answer.number);
         same("run", &answer, &other)?;
+        if answer.number != 0 {
+            same_plant(plant, &other_after)?;
+            same_bytes("panel of a refused run", frame, &other_panel)?;
+        }
         same_plant(&after, &other_after)?;
         same_bytes("panel of a run", &panel, &other_panel)
     }

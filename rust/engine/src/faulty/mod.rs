@@ -67,7 +67,7 @@ faults! {
     11 PLAIN_BEFORE_VALUE "event: plain track said before unknown value"
     12 FULL_AT_254 "strike-in: full track at 254"
     13 PASSAGE_WAITING_FIRST "passage: waiting given back before calling"
-    14 PASSAGE_UNDER_HOLD "passage: train's own hold kept while the operator holds"
+    14 PASSAGE_UNDER_HOLD "passage: BoomBoard's early return, the train's own call kept under an operator hold"
     15 PASSAGE_CLEARS_HOLDS "passage: clears the holds"
     16 OFF_ONLY_WHILE_ON "operator hold off: refused only while the hold is on"
     17 OFF_BY_WAITING "operator hold off: refused by waiting trains too"
