@@ -15,7 +15,7 @@ use Rattle.machine.specs.Plant.{fresh-plant}
 use Rattle.machine.specs.Range.{entry-zero}
 use Rattle.machine.specs.SiteBook.{book, book-entry, book-site, book-size, first-part, read, read-number, second-part, setting, setting-in, write-number, written-book}
 use Rattle.machine.proofs.Tools.{by-test, all-below-intro}
-use Rattle.machine.proofs.Ranges.{at-most-eight}
+use Rattle.machine.proofs.Entries.{at-most-eight}
 use Rattle.machine.proofs.Laws.{book-reads, read-plant, site-entry}
 use Rattle.book.specs.Copies.{copied, copy-number}
 use Rattle.book.proofs.Parts.{concat-same, concat-parts, part-bytes}

@@ -15,7 +15,7 @@ use Rattle.machine.specs.Plant.{no-entry, fresh-plant}
 use Rattle.machine.specs.Range.{entry-in, gap-in}
 use Rattle.machine.specs.SiteBook.{book, book-entry, book-length, book-site, book-size, first-part, no-site, read, read-number, second-part, setting, write-number}
 use Rattle.machine.proofs.Tools.{by-test, and-both, all-below-intro, tab-same, tab-getD, length-concat, getD-concat}
-use Rattle.machine.proofs.Ranges.{entry-reads, at-most-eight, entry-by, zero-entry}
+use Rattle.machine.proofs.Entries.{entry-reads, at-most-eight, entry-by, zero-entry}
 use Rattle.machine.proofs.Laws.{BookIn, book-bytes}
 use Rattle.book.specs.Copies.{reread}
 use Rattle.book.proofs.Bytes.{word-of}

@@ -12,7 +12,8 @@ use Rattle.machine.specs.declared.Event.{Event}
 use Rattle.machine.specs.Plant.{full, trains, boom-count}
 use Rattle.machine.specs.Events.{is, on-track, place-limit, refusal}
 use Rattle.machine.proofs.Tools.{by-test, by-cond}
-use Rattle.machine.proofs.Ranges.{EntryIn, CrossingIn}
+use Rattle.machine.proofs.Entries.{EntryIn}
+use Rattle.machine.proofs.Ranges.{CrossingIn}
 use Rattle.machine.proofs.Taken.{accepted}
 use Rattle.effect.specs.Room.{Room}
 

@@ -16,7 +16,8 @@ use Rattle.machine.specs.Panel.{row, panel}
 use Rattle.machine.specs.SiteBook.{book-size, book-length, book-entry, book-site, read-number, read, setting, first-part, second-part, book}
 use Rattle.machine.proofs.Tools.{by-test, below4, and-both, passed, all-below-at, getD-tab, length-concat, getD-concat}
 use Rattle.machine.proofs.Taken.{taken-answer, refused-answer}
-use Rattle.machine.proofs.Ranges.{TrackIn, TrackAt, opened, CrossingIn, NoCrossing, no-crossing-reads, at-most-eight, PlantIn, plant-tests}
+use Rattle.machine.proofs.Entries.{at-most-eight}
+use Rattle.machine.proofs.Ranges.{TrackIn, TrackAt, opened, CrossingIn, NoCrossing, no-crossing-reads, PlantIn, plant-tests}
 
 -- A fresh plant is in range --------------------------------------------------------------------------------------------------------
 fresh-used : (s : Entry) → CrossingIn s (fresh-crossing true)

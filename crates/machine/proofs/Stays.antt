@@ -1,7 +1,7 @@
 -- A plant in range stays in range under every event.
 use mathlib.Core.Path.{_≡_, refl, sym, _∙_}
 use mathlib.Core.Bool.{Bool, true, false, cond, _&&_, true≢false}
-use Prim.Native.Nat.{ℕ, suc, _+_, pred, _≤_, _<_}
+use Prim.Native.Nat.{ℕ, suc, _+_, _≤_, _<_}
 use native.Mathlib.Omega.{arith}
 use lib.Dec.{eqb, ltb, leb, lit<}
 use lib.ListN.{getD}
@@ -10,71 +10,18 @@ use Rattle.machine.specs.Common.{tab, bit}
 use Rattle.machine.specs.Plant.{Entry, Crossing, Plant, release-ticks, overdue-ticks, full, calling, waiting, route, occupied, boom, lamp, trains, entry, crossing, no-crossing, dependent, boom-count, reason, booms-up}
 use Rattle.machine.specs.Range.{in-range, boom-in}
 use Rattle.machine.specs.Events.{Event, is, is-at, on-track, place-limit, value-limit, number}
-use Rattle.machine.specs.Effects.{calling-after, waiting-after, cancels, act, releases, to-gap, phase-ticked, timer-ticked, tick}
+use Rattle.machine.specs.Effects.{calling-after, waiting-after, cancels, act, releases, phase-ticked, timer-ticked, tick}
 use Rattle.machine.specs.Settling.{phase-settled, timer-settled, out-settled, with-phase, settle}
 use Rattle.machine.specs.Step.{touch, apply, step}
 use Rattle.machine.proofs.Tools.{by-test, by-cond, and-both, getD-tab}
 use Rattle.machine.proofs.Trains.{at-place, trains-after}
 use Rattle.machine.proofs.Taken.{Accepted, taken-accepted, taken-crossing, taken-answer, refused-answer}
-use Rattle.machine.proofs.Ranges.{EntryIn, some-gap, TrackIn, TrackAt, PhaseIn, opened, warning, right, closed, raising, CrossingIn, NoCrossing, zero-kind, PlantIn, plant-reads, plant-tests, entry-of}
+use Rattle.machine.proofs.Entries.{EntryIn, zero-kind}
+use Rattle.machine.proofs.Ranges.{TrackIn, TrackAt, CrossingIn, NoCrossing, PlantIn, plant-reads, plant-tests, entry-of}
+use Rattle.machine.proofs.Phases.{less, phase-ticks, phase-settles}
 
--- Phase and timer ------------------------------------------------------------------------------------------------------------------
--- a timer that does not run out yet
-still-runs : (timer : ℕ) → 1 ≤ timer → eqb timer 1 ≡ false → 1 ≤ pred timer
-still-runs timer l q = let d : timer ≡ 1 → ⊥ = eqb-false _ _ q in omega arith
-
-less : (n m : ℕ) → n ≤ m → pred n ≤ m
-less n m l = omega arith
-
+-- One crossing --------------------------------------------------------------------------------------------------------------------
 module _ (s : Entry) (g : EntryIn s) where
-  -- what a timer that runs out leads to
-  runs-out : (phase : ℕ) → PhaseIn s (cond (to-gap s phase) 2 3) (bit (to-gap s phase) (s .gap))
-  runs-out phase = by-test (to-gap s phase)
-      (λ q. let four = and-both (eqb phase 1) (eqb (s .kind) 4) q .1 in rw q (right refl four (some-gap g four) (omega arith)))
-      (λ q. rw q (closed refl refl))
-
-  phase-ticks : {phase timer : ℕ} → PhaseIn s phase timer → PhaseIn s (phase-ticked s phase timer) (timer-ticked s phase timer)
-  unfolding phase-ticked timer-ticked
-  phase-ticks (opened p z) = rw (p, z) (opened refl refl)
-  phase-ticks {phase} {timer} (warning p l h) = by-test (eqb timer 1)
-      (λ q. rw q (runs-out phase))
-      (λ q. rw q (warning p (still-runs timer l q) (less timer _ h)))
-  phase-ticks {phase} {timer} (right p four l h) = by-test (eqb timer 1)
-      (λ q. rw q (runs-out phase))
-      (λ q. rw q (right p four (still-runs timer l q) (less timer _ h)))
-  phase-ticks (closed p z) = rw (p, z) (closed refl refl)
-  phase-ticks (raising p z h) = rw (p, z) (raising refl refl h)
-
-  -- a settled phase and its timer, from phase `from`
-  abbrev Next : ℕ → ℕ → ℕ → Type 0
-  Next from timer next = PhaseIn s next (timer-settled (s .pre) from next timer)
-
-  -- open, or in warning with F, from another phase
-  restarts : (stands : Bool) (from timer : ℕ) → eqb 0 from ≡ false → eqb 1 from ≡ false → Next from timer (bit stands 1)
-  unfolding timer-settled
-  restarts true from timer a b = rw b (warning refl (g .some-pre) (omega arith))
-  restarts false from timer a b = rw a (opened refl refl)
-
-  -- 2 or 3: it stays while a reason stands
-  lowers : (stands : Bool) {from timer : ℕ} → eqb 0 from ≡ false → eqb 4 from ≡ false → eqb from from ≡ true → PhaseIn s from timer → Next from timer (cond stands from (cond (eqb (s .kind) 1) 0 4))
-  unfolding timer-settled
-  lowers true a b e h = rw e h
-  lowers false {from} {timer} a b e h = by-cond (Next from timer) (eqb (s .kind) 1)
-      (λ _. rw a (opened refl refl))
-      (λ q. let d : s .kind ≡ 1 → ⊥ = eqb-false _ _ q in let k = g .some-kind in rw b (raising refl refl (omega arith)))
-
-  phase-settles : (stands up : Bool) {phase timer : ℕ} → PhaseIn s phase timer → Next phase timer (phase-settled (s .kind) stands up phase)
-  unfolding phase-settled timer-settled
-  phase-settles true up (opened p z) = rw p (warning refl (g .some-pre) (omega arith))
-  phase-settles false up (opened p z) = rw (p, z) (opened refl refl)
-  phase-settles true up (warning p l h) = rw p (warning refl l h)
-  phase-settles false up (warning p l h) = rw p (opened refl refl)
-  phase-settles stands up (right p four l h) = rw p (lowers stands refl refl refl (right refl four l h))
-  phase-settles stands up (closed p z) = rw p (lowers stands refl refl refl (closed refl z))
-  phase-settles stands true {phase} {timer} (raising p z h) = rw p (restarts stands 4 timer refl refl)
-  phase-settles stands false (raising p z h) = rw p (raising refl z h)
-
-  -- One crossing ---------------------------------------------------------------------------------------------------------------------
   out-law : (normal : Bool) (add out : ℕ) → add ≤ 1 → out-settled normal add out ≤ suc overdue-ticks
   unfolding out-settled
   out-law normal add out l = by-cond (λ x. x ≤ suc overdue-ticks) normal (λ _. omega arith) (λ _. by-cond (λ x. x ≤ suc overdue-ticks) (leb out overdue-ticks) (λ t. omega (arith, leb-true)) (λ _. omega arith))
@@ -85,7 +32,7 @@ module _ (s : Entry) (g : EntryIn s) where
     track = h .track;
     boom = h .boom;
     countdown = h .countdown;
-    phase = phase-settles (reason c) (booms-up (s .kind) (boom c)) (h .phase);
+    phase = phase-settles s g (reason c) (booms-up (s .kind) (boom c)) (h .phase);
     out = out-law _ add (c .out) l;
   }
 
@@ -95,7 +42,7 @@ module _ (s : Entry) (g : EntryIn s) where
     track = λ t l. let k = h .track t l in rw (getD-tab 4 (λ t. cond (releases c) 0 (calling c t)) 0 t l, getD-tab 4 (λ t. cond (releases c) 0 (waiting c t)) 0 t l) (cleared t (releases c) k);
     boom = h .boom;
     countdown = less (c .countdown) release-ticks (h .countdown);
-    phase = phase-ticks (h .phase);
+    phase = phase-ticks s g (h .phase);
     out = h .out;
   }
     where

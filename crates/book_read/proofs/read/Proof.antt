@@ -1,7 +1,7 @@
 use mathlib.Core.Path.{_≡_, sym, _∙_}
 use Rattle.machine.specs.SiteBook.{book-size, read-number, read}
 use Rattle.machine.proofs.Laws.{book-reads}
-use Rattle.machine.proofs.Ranges.{at-most-eight}
+use Rattle.machine.proofs.Entries.{at-most-eight}
 use borrow.Author.Tests.{ne-eqb}
 use borrow.Author.Needs.{needs}
 use Rattle.book_read.proofs.read.Statement.{statement}

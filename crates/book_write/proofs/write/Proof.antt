@@ -1,6 +1,6 @@
 use mathlib.Core.Path.{sym, _∙_}
 use Rattle.book_write.proofs.Accepted.{write-reads, written-taken, written-refused}
-use Rattle.machine.proofs.Ranges.{at-most-eight}
+use Rattle.machine.proofs.Entries.{at-most-eight}
 use Rattle.machine.specs.SiteBook.{write-number}
 use borrow.Author.Needs.{needs}
 use Rattle.book_write.proofs.write.Statement.{statement}

@@ -9,7 +9,8 @@ use Rattle.machine.specs.Common.{sum-below}
 use Rattle.machine.specs.Plant.{no-entry, no-crossing}
 use Rattle.machine.proofs.Tools.{sum-past}
 use Rattle.machine.proofs.First.{put-first, past-first, first-tab}
-use Rattle.machine.proofs.Ranges.{plant-reads, zero-kind}
+use Rattle.machine.proofs.Entries.{zero-kind}
+use Rattle.machine.proofs.Ranges.{plant-reads}
 use Rattle.plant.proofs.Laws.{unread, crossing-read}
 use Rattle.tick.proofs.Past.{Tracks, each-tracks, next-at, written-off, past-stays, past-written}
 use Rattle.tick.proofs.tick_all.Statement.{statement}
