@@ -10,11 +10,12 @@ use Rattle.machine.specs.Common.{bit}
 use Rattle.machine.specs.declared.Entry.{Entry}
 use Rattle.machine.specs.declared.Crossing.{Crossing}
 use Rattle.machine.specs.declared.Event.{Event}
-use Rattle.machine.specs.Plant.{calling, waiting, route, boom, lamp, reason}
+use Rattle.machine.specs.Plant.{calling, waiting, route, boom, lamp, dependent, reason}
 use Rattle.machine.specs.Events.{is, is-at}
 use Rattle.machine.specs.Effects.{calls, calling-after, waiting-after, cancels, act, releases, tick}
 use Rattle.machine.specs.Settling.{settle}
 use Rattle.machine.proofs.Tools.{getD-tab, each-tab}
+use Rattle.demand.specs.Words.{depends, has-reason}
 use Rattle.demand.specs.Ledger.{last, boom-report, lamp-whole, kiosk-on, operator-on, route-set, countdown, Queue, empty, joined, gone, moved, queue, stands}
 
 abbrev pub queue-of : Crossing → ℕ → Queue
@@ -53,7 +54,7 @@ module _ {s : Entry} {c : Crossing} {h : List Event} (a : Agree s c h) (e : Even
   -- an event of this crossing
   module _ (not-tick : is 0 e ≡ false) where
     own-queue : (t : ℕ) → t < 4 → queue-of (act s c e) t ≡ queue s t (e ∷ h)
-    unfolding act queue calling-after waiting-after
+    unfolding act queue calling-after waiting-after dependent depends
     own-queue t b = rw (getD-tab 4 (calling-after s c e) 0 t b, getD-tab 4 (waiting-after s c e) 0 t b, not-tick, ← a .route t b, ← a .queue t b)
         (queue-law (is-at 1 t e) (is-at 2 t e) (is-at 5 t e && eqb (e .value) 1) (calls s c t) (calling c t) (waiting c t))
 
@@ -93,7 +94,7 @@ module _ {s : Entry} {c : Crossing} {h : List Event} (a : Agree s c h) (e : Even
 
 -- the reason of the record is that of the ledger
 pub reason-stands : {s : Entry} {c : Crossing} {h : List Event} → Agree s c h → reason c ≡ stands s h
-unfolding reason stands
+unfolding reason stands has-reason
 reason-stands {s} {c} {h} a = rw (a .kiosk, a .operator, call 0 (lit< tt), call 1 (lit< tt), call 2 (lit< tt), call 3 (lit< tt))
   where
     call : (t : ℕ) → t < 4 → calling c t ≡ queue s t h .calling

@@ -23,6 +23,7 @@ use Rattle.machine.proofs.Tools.{by-test, and-both, all-below-same, getD-tab}
 use Rattle.machine.proofs.Taken.{step-site}
 use Rattle.machine.proofs.Ranges.{PlantIn, plant-reads}
 use Rattle.machine.proofs.Laws.{fresh-in-range, panel-at}
+use Rattle.demand.specs.Words.{all-up, all-closed}
 use Rattle.demand.specs.Ledger.{log, boom-report}
 use Rattle.demand.specs.Demand.{stands-after, Unbroken, needed, shown, a-tick, Closed, Kept, Demand}
 use Rattle.demand.proofs.Unbroken.{stands-now, at-least}
@@ -30,7 +31,7 @@ use Rattle.demand.proofs.Timing.{rests, all-down}
 use Rattle.demand.proofs.Agree.{reason-stands}
 use Rattle.demand.proofs.Each.{Holds, no-timer}
 use Rattle.demand.proofs.Answers.{crossing-after, tick-taken}
-use Rattle.demand.proofs.Run.{Sound, sound}
+use Rattle.demand.proofs.Run.{same-sum, Sound, sound}
 use Rattle.demand.proofs.Shown.{passable-secured, released-secured, right-up, left-up, opened, normal-bit}
 
 -- One crossing ---------------------------------------------------------------------------------------------------------------------
@@ -61,7 +62,7 @@ module _ (p : Plant) (es : List Event) (k : Sound p es) (i : ℕ) (l : i < p .si
   booms-same f = all-below-same 4 _ _ (λ b d. ap (λ x. leb (boom-count (s .kind)) b || f x) (at .agree .boom b d))
 
   closed : secured s c ≡ true → Closed p es i
-  unfolding secured booms-closed
+  unfolding secured booms-closed all-closed
   closed v =
       let a = and-both _ (booms-closed (s .kind) (boom c)) v in
       let b = and-both (eqb (c .phase) 3) (lamp c 1) (a .0) in
@@ -76,8 +77,8 @@ module _ (p : Plant) (es : List Event) (k : Sound p es) (i : ℕ) (l : i < p .si
     at-rest : rests (c .phase) ≡ true
     at-rest = by-test (rests (c .phase)) (λ r. r) (λ r. absurd (true≢false (sym (stands-now p i (at .timed r .1)) ∙ none)))
 
-    after-tick : booms-up (s .kind) (boom-report (log p i es)) ≡ true → shown (step q a-tick .plant) i 9 % 2 ≡ 1
-    unfolding booms-up touch row
+    after-tick : all-up (s .kind) (boom-report (log p i es)) ≡ true → shown (step q a-tick .plant) i 9 % 2 ≡ 1
+    unfolding booms-up all-up touch row
     after-tick up =
         let t = tick-taken q (k .range) in
         let same : entry q i ≡ s = ap (λ x. getD (x .entries) i no-entry) (k .site) in
@@ -110,4 +111,4 @@ demand book es v =
     let p = read book .plant in
     let g = fresh-in-range book v in
     let k = sound p g (λ i l. fresh-at (p .site) i l (plant-reads p g .count)) es in
-    record { each = kept p es k; sum = k .sum; tick = tick-taken (after p es) (k .range) }
+    record { each = kept p es k; sum = same-sum (p .site .n) _ ∙ k .sum; tick = tick-taken (after p es) (k .range) }

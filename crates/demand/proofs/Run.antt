@@ -2,7 +2,7 @@
 use mathlib.Core.Path.{_≡_, refl, _∙_, ap}
 use mathlib.Core.Bool.{true, false}
 use mathlib.Core.List.{List, [], _∷_, _++_}
-use Prim.Native.Nat.{ℕ, _+_, _<_}
+use Prim.Native.Nat.{ℕ, zero, suc, _+_, _<_}
 use native.Mathlib.Omega.{arith}
 use native.Mathlib.Nat.{add-zero}
 use lib.ListN.{getD}
@@ -17,6 +17,7 @@ use Rattle.machine.proofs.Tools.{by-test, sum-add, sum-same, sum-past}
 use Rattle.machine.proofs.Taken.{step-site, taken-accepted}
 use Rattle.machine.proofs.Ranges.{plant-reads, entry-of}
 use Rattle.machine.proofs.Stays.{stays-in-range}
+use Rattle.demand.specs.Words.{sum-over}
 use Rattle.demand.specs.Ledger.{taken, note, log, written-off}
 use Rattle.demand.proofs.Lists.{snoc-induction, after-append, carried-append, log-snoc}
 use Rattle.demand.proofs.Each.{Holds, fresh-holds, skipped, touched, written-touched}
@@ -25,6 +26,12 @@ use Rattle.demand.proofs.Answers.{zero-number, crossing-after, taken-wr
 -- the trains written off by the ledgers of all crossings
 abbrev all-written : Plant → List Event → ℕ
 all-written p es = sum-below (p .site .n) (λ i. written-off (entry p i) (log p i es))
+
+-- the claim's own sum is the machine's
+pub same-sum : (n : ℕ) (f : ℕ → ℕ) → sum-over n f ≡ sum-below n f
+unfolding sum-over
+same-sum zero f = refl
+same-sum (suc n) f = rw (same-sum n f)
 
 pub record Sound (p : Plant) (es : List Event) : Type 0 where
   pub site : after p es .site ≡ p .site

@@ -5,14 +5,16 @@ use mathlib.Core.Bool.{Bool, true, false}
 use mathlib.Core.List.{List, _++_}
 use Prim.Native.Nat.{ℕ, _+_, _*_, _%_, _≤_, _<_}
 use lib.Dec.{eqb}
-use Rattle.machine.specs.Common.{bit, byte, sum-below}
+use lib.ListN.{getD}
 use Rattle.machine.specs.declared.Entry.{Entry}
+use Rattle.machine.specs.declared.Crossing.{Crossing}
 use Rattle.machine.specs.declared.Plant.{Plant}
 use Rattle.machine.specs.declared.Event.{Event}
-use Rattle.machine.specs.Plant.{total, entry, crossing, booms-up, booms-closed}
+use Rattle.machine.specs.Plant.{entry, crossing}
 use Rattle.machine.specs.Step.{step, after, carried}
 use Rattle.machine.specs.Panel.{panel}
 use Rattle.machine.specs.SiteBook.{read}
+use Rattle.demand.specs.Words.{bit, sum4, sum-over, all-up, all-closed}
 use Rattle.demand.specs.Ledger.{taken, log, ticks, strike-ins, passages, boom-report, lamp-whole, written-off, stands}
 
 -- p is the plant before the list es, and i a crossing of it ------------------------------------------------------------------------
@@ -34,7 +36,11 @@ needed s = s .pre + bit (eqb (s .kind) 4) (s .gap)
 
 -- byte k of crossing i in the panel of a plant
 abbrev pub shown : Plant → ℕ → ℕ → ℕ
-shown p i k = byte (panel p) (16 * i + k)
+shown p i k = getD (panel p) (16 * i + k) 0
+
+-- calling and waiting of a crossing, over all tracks
+abbrev pub there : Crossing → ℕ
+there c = sum4 (λ t. getD (c .calling) t 0 + getD (c .waiting) t 0)
 
 -- the further tick
 abbrev pub a-tick : Event
@@ -45,12 +51,12 @@ a-tick = record { code = 0; crossing = 0; place = 0; value = 0 }
 abbrev pub Account : Plant → List Event → ℕ → Type 0
 Account p es i =
     let h = log p i es in
-    strike-ins h ≡ passages h + written-off (entry p i) h + total (crossing (after p es) i)
+    strike-ins h ≡ passages h + written-off (entry p i) h + there (crossing (after p es) i)
 
 -- what a train may rely on: a reason unbroken for long enough, the last reports of the booms as the kind demands, and the road's red whole
 pub record Closed (p : Plant) (es : List Event) (i : ℕ) : Type 0 where
   pub unbroken : Unbroken p i (needed (entry p i)) es
-  pub booms : booms-closed (entry p i .kind) (boom-report (log p i es)) ≡ true
+  pub booms : all-closed (entry p i .kind) (boom-report (log p i es)) ≡ true
   pub red : lamp-whole (log p i es) 1 ≡ true
 
 -- passage rule: passable (byte 6 is 2) or released (a bit of byte 8 is set) only then
@@ -61,7 +67,7 @@ Passage p es i = (shown (after p es) i 6 ≡ 2) ⊎ (0 < shown (after p es) i 8)
 pub record Opens (p : Plant) (es : List Event) (i : ℕ) : Type 0 where
   pub right : shown (after p es) i 4 ≡ 0
   pub left : shown (after p es) i 5 ≡ 0
-  pub normal : booms-up (entry p i .kind) (boom-report (log p i es)) ≡ true → shown (step (after p es) a-tick .plant) i 9 % 2 ≡ 1
+  pub normal : all-up (entry p i .kind) (boom-report (log p i es)) ≡ true → shown (step (after p es) a-tick .plant) i 9 % 2 ≡ 1
 
 -- opening tick: that holds where no reason stands
 abbrev pub Opening : Plant → List Event → ℕ → Type 0
@@ -77,7 +83,7 @@ pub record Kept (p : Plant) (es : List Event) (i : ℕ) : Type 0 where
 -- at each crossing the three parts; over all crossings the trains written off add up to what the answers carry; and a further tick is taken
 pub record Demand-3 (p : Plant) (es : List Event) : Type 0 where
   pub each : (i : ℕ) → i < p .site .n → Kept p es i
-  pub sum : sum-below (p .site .n) (λ i. written-off (entry p i) (log p i es)) ≡ carried p es
+  pub sum : sum-over (p .site .n) (λ i. written-off (entry p i) (log p i es)) ≡ carried p es
   pub tick : taken (after p es) a-tick ≡ true
 
 -- for every book read with number 0 and every list of events, each any four numbers

@@ -3,13 +3,11 @@ use mathlib.Core.Bool.{Bool, cond, not, _&&_, _||_}
 use mathlib.Core.List.{List, [], _∷_, _++_}
 use Prim.Native.Nat.{ℕ, _+_, pred}
 use lib.Dec.{eqb}
-use Rattle.machine.specs.Common.{bit, sum4}
 use Rattle.machine.specs.declared.Entry.{Entry}
 use Rattle.machine.specs.declared.Plant.{Plant}
 use Rattle.machine.specs.declared.Event.{Event}
-use Rattle.machine.specs.Plant.{release-ticks, dependent, reason-of}
-use Rattle.machine.specs.Events.{is, is-to, is-at}
 use Rattle.machine.specs.Step.{step}
+use Rattle.demand.specs.Words.{bit, sum4, is, is-to, is-at, depends, has-reason}
 
 -- The taken events ---------------------------------------------------------------------------------------------------------------
 -- taken: answered with number 0
@@ -77,7 +75,7 @@ unfoldable pub countdown : List Event → ℕ
 countdown [] = 0
 countdown (e ∷ h) =
     cond (is 0 e) (pred (countdown h))
-    (cond (is 7 e) release-ticks
+    (cond (is 7 e) 270
     (cond (is 1 e || is-to 3 1 e || is-to 4 1 e || is-to 5 1 e || is-to 6 1 e) 0
     (countdown h)))
 
@@ -113,7 +111,7 @@ queue s t [] = empty
 queue s t (e ∷ h) =
     let q = queue s t h in
     cond (completes e h) empty
-    (cond (is-at 1 t e) (joined (not (dependent s t) || route-set t h) q)
+    (cond (is-at 1 t e) (joined (not (depends s t) || route-set t h) q)
     (cond (is-at 2 t e) (gone q)
     (cond (is-at 5 t e && eqb (e .value) 1) (moved q)
     q)))
@@ -129,4 +127,4 @@ written-off s (e ∷ h) = bit (completes e h) (trains s h) + written-off s h
 
 -- a reason stands: some track is calling or a hold is on
 unfoldable pub stands : Entry → List Event → Bool
-stands s h = reason-of (kiosk-on h) (operator-on h) (λ t. queue s t h .calling)
+stands s h = has-reason (kiosk-on h) (operator-on h) (λ t. queue s t h .calling)
