@@ -10,7 +10,7 @@ use Rattle.machine.specs.Common.{bit}
 use Rattle.machine.specs.declared.Entry.{Entry}
 use Rattle.machine.specs.declared.Crossing.{Crossing}
 use Rattle.machine.specs.declared.Event.{Event}
-use Rattle.machine.specs.Plant.{calling, waiting, route, boom, lamp, dependent, reason}
+use Rattle.machine.specs.Plant.{calling, waiting, route-flag, route, boom, lamp, kiosk, operator, dependent, reason}
 use Rattle.machine.specs.Events.{is, is-at}
 use Rattle.machine.specs.Effects.{calls, calling-after, waiting-after, cancels, act, releases, tick}
 use Rattle.machine.specs.Settling.{settle}
@@ -22,8 +22,8 @@ abbrev pub queue-of : Crossing → ℕ → Queue
 queue-of c t = record { calling = calling c t; waiting = waiting c t }
 
 pub record Agree (s : Entry) (c : Crossing) (h : List Event) : Type 0 where
-  pub kiosk : c .kiosk ≡ kiosk-on h
-  pub operator : c .operator ≡ operator-on h
+  pub kiosk : kiosk c ≡ kiosk-on h
+  pub operator : operator c ≡ operator-on h
   pub countdown : c .countdown ≡ countdown h
   pub route : (t : ℕ) → t < 4 → route c t ≡ route-set t h
   pub queue : (t : ℕ) → t < 4 → queue-of c t ≡ queue s t h
@@ -31,9 +31,9 @@ pub record Agree (s : Entry) (c : Crossing) (h : List Event) : Type 0 where
   pub red : lamp c 1 ≡ lamp-whole h 1
 
 -- a flag is on where the last value given was 1
-flag-law : (b : Bool) (v w : ℕ) {r : Bool} → r ≡ eqb w 1 → cond b (eqb v 1) r ≡ eqb (cond b v w) 1
-flag-law true v w a = refl
-flag-law false v w a = a
+flag-law : (b : Bool) (v w r : ℕ) → eqb r 1 ≡ eqb w 1 → eqb (cond b v r) 1 ≡ eqb (cond b v w) 1
+flag-law true v w r a = refl
+flag-law false v w r a = a
 
 -- the machine's two fields against the ledger's one queue: strike-in, passage, route set, or another event
 queue-law : (b1 b2 b5 r : Bool) (c w : ℕ) →
@@ -61,13 +61,13 @@ module _ {s : Entry} {c : Crossing} {h : List Event} (a : Agree s c h) (e : Even
     pub own-agree : Agree s (settle s 0 (act s c e)) (e ∷ h)
     unfolding settle act last countdown cancels
     own-agree = record {
-      kiosk = flag-law (is 3 e) (e .value) _ (a .kiosk);
-      operator = flag-law (is 4 e) (e .value) _ (a .operator);
+      kiosk = flag-law (is 3 e) (e .value) _ _ (a .kiosk);
+      operator = flag-law (is 4 e) (e .value) _ _ (a .operator);
       countdown = rw (not-tick, a .countdown);
-      route = each-tab 4 _ false (λ t x. x ≡ route-set t (e ∷ h)) (λ t b. flag-law (is-at 5 t e) (e .value) _ (a .route t b));
+      route = each-tab 4 (λ t. cond (is-at 5 t e) (e .value) (route-flag c t)) 0 (λ t x. eqb x 1 ≡ route-set t (e ∷ h)) (λ t b. flag-law (is-at 5 t e) (e .value) _ (route-flag c t) (a .route t b));
       queue = own-queue;
       boom = each-tab 4 _ 0 (λ b x. x ≡ boom-report (e ∷ h) b) (λ b l. ap (cond (is-at 8 b e) (e .value)) (a .boom b l));
-      red = flag-law (is-at 9 1 e) (e .value) _ (a .red);
+      red = flag-law (is-at 9 1 e) (e .value) _ _ (a .red);
     }
 
   -- a tick

@@ -9,7 +9,7 @@ use borrow.Author.Tests.{eqb-true}
 use Rattle.machine.specs.Common.{bit}
 use Rattle.machine.specs.declared.Entry.{Entry}
 use Rattle.machine.specs.declared.Crossing.{Crossing}
-use Rattle.machine.specs.Plant.{overdue-ticks, calling, boom, lamp, reason-of, reason, booms-up, normal, secured}
+use Rattle.machine.specs.Plant.{overdue-ticks, calling, boom, lamp, kiosk, operator, reason-of, reason, booms-up, normal, secured}
 use Rattle.machine.specs.Effects.{releases, tick}
 use Rattle.machine.specs.Settling.{phase-settled, settle}
 use Rattle.machine.specs.Panel.{signal, right-down, left-down, released, releases-shown, status}
@@ -31,8 +31,8 @@ module _ (s : Entry) (c : Crossing) where
   unfolding reason tick
   tick-reason q = go (releases c)
     where
-      go : (r : Bool) → reason-of (c .kiosk) (c .operator) (λ t. cond r 0 (calling c t)) ≡ false
-      go true = rw (neither (c .kiosk || c .operator) _ q .0)
+      go : (r : Bool) → reason-of (kiosk c) (operator c) (λ t. cond r 0 (calling c t)) ≡ false
+      go true = rw (neither (kiosk c || operator c) _ q .0)
       go false = q
 
   module _ (r : rests (c .phase) ≡ true) where

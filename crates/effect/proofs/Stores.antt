@@ -96,12 +96,12 @@ module _ (s : Entry) (c : Crossing) (e : Event) where
         (cond (is 2 e) (set (c .waiting) at (waiting c at - bit (eqb (calling c at) 0) 1))
         (cond (is 5 e && on) (set (c .waiting) at 0)
         (c .waiting)));
-    route = cond (is 5 e) (set (c .route) at on) (c .route);
-    occupied = cond (is 6 e) (set (c .occupied) at on) (c .occupied);
+    route = cond (is 5 e) (set (c .route) at (e .value)) (c .route);
+    occupied = cond (is 6 e) (set (c .occupied) at (e .value)) (c .occupied);
     booms = cond (is 8 e) (set (c .booms) at (e .value)) (c .booms);
-    lamps = cond (is 9 e) (set (c .lamps) at on) (c .lamps);
-    kiosk = cond (is 3 e) on (c .kiosk);
-    operator = cond (is 4 e) on (c .operator);
+    lamps = cond (is 9 e) (set (c .lamps) at (e .value)) (c .lamps);
+    kiosk = cond (is 3 e) (e .value) (c .kiosk);
+    operator = cond (is 4 e) (e .value) (c .operator);
     countdown = cond (is 7 e) release-ticks (cond (cancels e) 0 (c .countdown));
     phase = c .phase;
     timer = c .timer;
@@ -113,10 +113,10 @@ module _ (s : Entry) (c : Crossing) (e : Event) where
   act-stores vs p = let z = sized c vs p in simp (
     queue 4 (c .calling) 0 at (z .calling) (is 1 e) (is 2 e) (is 5 e) on (λ t. calling c t + bit (calls s c t) 1) (λ t. pred (calling c t)) (λ t. calling c t + waiting c t),
     queue 4 (c .waiting) 0 at (z .waiting) (is 1 e) (is 2 e) (is 5 e) on (λ t. waiting c t + bit (not (calls s c t)) 1) (λ t. waiting c t - bit (eqb (calling c t) 0) 1) (λ t. 0),
-    stored 4 (c .route) false at (z .route) (is 5 e) (λ t. on),
-    stored 4 (c .occupied) false at (z .occupied) (is 6 e) (λ t. on),
+    stored 4 (c .route) 0 at (z .route) (is 5 e) (λ t. e .value),
+    stored 4 (c .occupied) 0 at (z .occupied) (is 6 e) (λ t. e .value),
     stored 4 (c .booms) 0 at (z .booms) (is 8 e) (λ t. e .value),
-    stored 5 (c .lamps) false at (z .lamps) (is 9 e) (λ t. on),
+    stored 5 (c .lamps) 0 at (z .lamps) (is 9 e) (λ t. e .value),
   )
 
   -- a passage where no train is calling
@@ -145,7 +145,7 @@ module _ (s : Entry) (c : Crossing) (e : Event) where
   routed = record {
     calling = set (c .calling) at (calling c at + waiting c at);
     waiting = set (c .waiting) at 0;
-    route = set (c .route) at on;
+    route = set (c .route) at (e .value);
     occupied = c .occupied;
     booms = c .booms;
     lamps = c .lamps;

@@ -16,7 +16,7 @@ fn strike_in(s: Entry, c: Crossing, e: Event) -> Crossing
     let t = e.place as usize;
     let mut d = c;
     d.countdown = 0;
-    if !kind::dependent(s, t) | c.route[t] {
+    if !kind::dependent(s, t) | (c.route[t] == 1) {
         d.calling[t] = c.calling[t] + 1;
         return d;
     }
@@ -45,10 +45,10 @@ fn kiosk_hold(s: Entry, c: Crossing, e: Event) -> Crossing
     requires { ⌜ e .code ≡ 3 ⌝ }
     ensures { λ r. ⌜ r ≡ act s c e ⌝ }
 {
-    let kiosk = e.value == 1;
+    let kiosk = e.value;
     let mut d = c;
     d.kiosk = kiosk;
-    if kiosk {
+    if kiosk == 1 {
         d.countdown = 0;
         return d;
     }
@@ -60,10 +60,10 @@ fn operator_hold(s: Entry, c: Crossing, e: Event) -> Crossing
     requires { ⌜ e .code ≡ 4 ⌝ }
     ensures { λ r. ⌜ r ≡ act s c e ⌝ }
 {
-    let operator = e.value == 1;
+    let operator = e.value;
     let mut d = c;
     d.operator = operator;
-    if operator {
+    if operator == 1 {
         d.countdown = 0;
         return d;
     }
@@ -76,10 +76,10 @@ fn route(s: Entry, c: Crossing, e: Event) -> Crossing
     ensures { λ r. ⌜ r ≡ act s c e ⌝ }
 {
     let t = e.place as usize;
-    let set = e.value == 1;
+    let set = e.value;
     let mut d = c;
     d.route[t] = set;
-    if set {
+    if set == 1 {
         d.calling[t] = c.calling[t] + c.waiting[t];
         d.waiting[t] = 0;
         d.countdown = 0;
@@ -94,10 +94,10 @@ fn approach(s: Entry, c: Crossing, e: Event) -> Crossing
     ensures { λ r. ⌜ r ≡ act s c e ⌝ }
 {
     let t = e.place as usize;
-    let occupied = e.value == 1;
+    let occupied = e.value;
     let mut d = c;
     d.occupied[t] = occupied;
-    if occupied {
+    if occupied == 1 {
         d.countdown = 0;
         return d;
     }
@@ -132,7 +132,7 @@ fn lamp_report(s: Entry, c: Crossing, e: Event) -> Crossing
 {
     let l = e.place as usize;
     let mut d = c;
-    d.lamps[l] = e.value == 1;
+    d.lamps[l] = e.value;
     d
 }
 

@@ -14,7 +14,7 @@ use Rattle.machine.specs.Events.{Event, is, number}
 use Rattle.machine.specs.Step.{touch, apply, step}
 use Rattle.machine.specs.Panel.{row, panel}
 use Rattle.machine.specs.SiteBook.{book-size, book-length, book-entry, book-site, read-number, read, setting, first-part, second-part, book}
-use Rattle.machine.proofs.Tools.{by-test, below4, and-both, passed, all-below-at, getD-tab, length-concat, getD-concat}
+use Rattle.machine.proofs.Tools.{by-test, below4, and-both, passed, all-below-at, getD-tab, each-tab, length-concat, getD-concat}
 use Rattle.machine.proofs.Taken.{taken-answer, refused-answer}
 use Rattle.machine.proofs.Entries.{at-most-eight}
 use Rattle.machine.proofs.Ranges.{TrackIn, TrackAt, opened, CrossingIn, NoCrossing, no-crossing-reads, PlantIn, plant-tests}
@@ -24,13 +24,16 @@ fresh-used : (s : Entry) → CrossingIn s (fresh-crossing true)
 fresh-used s = record {
   track = below4 (TrackAt s (fresh-crossing true)) (empty 0) (empty 1) (empty 2) (empty 3);
   boom = below4 (λ b. boom-in s (fresh-crossing true) b ≡ true) (up 0) (up 1) (up 2) (up 3);
+  lamp = each-tab 5 (λ l. 1) 0 (λ l x. x ≤ 1) (λ l b. lit≤ tt);
+  kiosk = lit≤ tt;
+  operator = lit≤ tt;
   countdown = lit≤ tt;
   phase = opened refl refl;
   out = lit≤ tt;
 }
   where
-    empty : (t : ℕ) → TrackIn s t 0 0 false false
-    empty t = record { few = lit≤ tt; plain = λ _. (refl, refl); lacking = λ _. record { calling = refl; waiting = refl; route = refl; occupied = refl } }
+    empty : (t : ℕ) → TrackIn s t 0 0 0 0
+    empty t = record { few = lit≤ tt; route = lit≤ tt; occupied = lit≤ tt; plain = λ _. (refl, refl); lacking = λ _. record { calling = refl; waiting = refl; route = refl; occupied = refl } }
 
     up : (b : ℕ) → leb 0 (cond (ltb b (boom-count (s .kind))) 2 0) ≡ true
     up b = leb·zero (cond (ltb b (boom-count (s .kind))) 2 0)

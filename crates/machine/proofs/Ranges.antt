@@ -1,41 +1,43 @@
 -- What the range tests say, as facts: a test that holds gives its record, and the record gives the test.
-use mathlib.Core.Path.{_≡_, ap}
-use mathlib.Core.Bool.{Bool, true, false, not, _&&_, _||_}
+use mathlib.Core.Path.{_≡_}
+use mathlib.Core.Bool.{Bool, true, false, _&&_, _||_}
 use Prim.Native.Nat.{ℕ, suc, _+_, _≤_, _<_}
 use native.Mathlib.Omega.{arith}
 use lib.Dec.{eqb, ltb, leb}
-use borrow.Author.Tests.{eqb-true, leb-true, ltb-true, ltb-false, eq-eqb, le-leb, lt-ltb, le-ltb, not-true}
+use borrow.Author.Tests.{eqb-true, leb-true, ltb-true, ltb-false, eq-eqb, le-leb, lt-ltb, le-ltb}
 use Rattle.machine.specs.Common.{all-below}
-use Rattle.machine.specs.Plant.{Entry, Crossing, Plant, release-ticks, overdue-ticks, full, calling, waiting, route, occupied, boom, lamp, trains, entry, crossing, dependent}
-use Rattle.machine.specs.Range.{entry-in, entry-zero, track-zero, track-in, boom-in, phase-in, crossing-in, crossing-zero, place-in, count-in, in-range}
+use Rattle.machine.specs.Plant.{Entry, Crossing, Plant, release-ticks, overdue-ticks, full, calling, waiting, route-flag, occupied-flag, boom, lamp-flag, trains, entry, crossing, dependent}
+use Rattle.machine.specs.Range.{entry-in, entry-zero, flag-in, track-zero, track-in, boom-in, phase-in, crossing-in, crossing-zero, place-in, count-in, in-range}
 use Rattle.machine.proofs.Tools.{by-test, by-cond, and-both, and-intro, or-right, or-left-false, all-below-intro, all-below-at}
 use Rattle.machine.proofs.Entries.{EntryIn, entry-reads}
 
 -- One track: its number t and what it holds ----------------------------------------------------------------------------------------
-pub record Zero (k w : ℕ) (r o : Bool) : Type 0 where
+pub record Zero (k w r o : ℕ) : Type 0 where
   pub calling : k ≡ 0
   pub waiting : w ≡ 0
-  pub route : r ≡ false
-  pub occupied : o ≡ false
+  pub route : r ≡ 0
+  pub occupied : o ≡ 0
 
-pub record TrackIn (s : Entry) (t k w : ℕ) (r o : Bool) : Type 0 where
+pub record TrackIn (s : Entry) (t k w r o : ℕ) : Type 0 where
   pub few : k + w ≤ full
-  pub plain : dependent s t ≡ false → (w ≡ 0) × (r ≡ false)
+  pub route : r ≤ 1
+  pub occupied : o ≤ 1
+  pub plain : dependent s t ≡ false → (w ≡ 0) × (r ≡ 0)
   pub lacking : s .tracks ≤ t → Zero k w r o
 
 abbrev pub ZeroAt : Crossing → ℕ → Type 0
-ZeroAt c t = Zero (calling c t) (waiting c t) (route c t) (occupied c t)
+ZeroAt c t = Zero (calling c t) (waiting c t) (route-flag c t) (occupied-flag c t)
 
 abbrev pub TrackAt : Entry → Crossing → ℕ → Type 0
-TrackAt s c t = TrackIn s t (calling c t) (waiting c t) (route c t) (occupied c t)
+TrackAt s c t = TrackIn s t (calling c t) (waiting c t) (route-flag c t) (occupied-flag c t)
 
 module _ (c : Crossing) (t : ℕ) where
   pub zero-reads : track-zero c t ≡ true → ZeroAt c t
   zero-reads q =
-      let o = and-both _ (not (occupied c t)) q in
-      let r = and-both _ (not (route c t)) (o .0) in
+      let o = and-both _ (eqb (occupied-flag c t) 0) q in
+      let r = and-both _ (eqb (route-flag c t) 0) (o .0) in
       let w = and-both (eqb (calling c t) 0) (eqb (waiting c t) 0) (r .0) in
-      record { calling = eqb-true _ _ (w .0); waiting = eqb-true _ _ (w .1); route = not-true _ (r .1); occupied = not-true _ (o .1) }
+      record { calling = eqb-true _ _ (w .0); waiting = eqb-true _ _ (w .1); route = eqb-true _ _ (r .1); occupied = eqb-true _ _ (o .1) }
 
   pub zero-tests : ZeroAt c t → track-zero c t ≡ true
   zero-tests z = rw (z .calling, z .waiting, z .route, z .occupied)
@@ -45,17 +47,22 @@ module _ (c : Crossing) (t : ℕ) where
     unfolding track-in
     track-reads q =
         let l = and-both _ (ltb t (s .tracks) || track-zero c t) q in
-        let p = and-both (leb (trains c t) full) (dependent s t || (eqb (waiting c t) 0 && not (route c t))) (l .0) in
+        let p = and-both _ (dependent s t || (eqb (waiting c t) 0 && eqb (route-flag c t) 0)) (l .0) in
+        let f = and-both (leb (trains c t) full) (flag-in (route-flag c t) && flag-in (occupied-flag c t)) (p .0) in
+        let g = and-both (flag-in (route-flag c t)) (flag-in (occupied-flag c t)) (f .1) in
         record {
-          few = leb-true _ _ (p .0);
-          plain = λ d. let a = and-both (eqb (waiting c t) 0) _ (or-left-false (dependent s t) _ d (p .1)) in (eqb-true _ _ (a .0), not-true _ (a .1));
+          few = leb-true _ _ (f .0);
+          route = leb-true _ _ (g .0);
+          occupied = leb-true _ _ (g .1);
+          plain = λ d. let a = and-both (eqb (waiting c t) 0) _ (or-left-false (dependent s t) _ d (p .1)) in (eqb-true _ _ (a .0), eqb-true _ _ (a .1));
           lacking = λ b. zero-reads (or-left-false (ltb t (s .tracks)) _ (le-ltb _ _ b) (l .1));
         }
 
     pub track-tests : TrackAt s c t → track-in s c t ≡ true
     unfolding track-in
     track-tests h =
-        and-intro (and-intro (le-leb _ _ (h .few)) (or-right (dependent s t) (eqb (waiting c t) 0 && not (route c t)) (λ d. rw (h .plain d .0, h .plain d .1))))
+        and-intro (and-intro (and-intro (le-leb _ _ (h .few)) (and-intro (le-leb _ _ (h .route)) (le-leb _ _ (h .occupied))))
+        (or-right (dependent s t) (eqb (waiting c t) 0 && eqb (route-flag c t) 0) (λ d. rw (h .plain d .0, h .plain d .1))))
         (or-right (ltb t (s .tracks)) (track-zero c t) (λ b. zero-tests (h .lacking (ltb-false _ _ b))))
 
 -- Phase and timer ------------------------------------------------------------------------------------------------------------------
@@ -92,6 +99,9 @@ module _ (s : Entry) (phase timer : ℕ) where
 pub record CrossingIn (s : Entry) (c : Crossing) : Type 0 where
   pub track : (t : ℕ) → t < 4 → TrackAt s c t
   pub boom : (b : ℕ) → b < 4 → boom-in s c b ≡ true
+  pub lamp : (l : ℕ) → l < 5 → lamp-flag c l ≤ 1
+  pub kiosk : c .kiosk ≤ 1
+  pub operator : c .operator ≤ 1
   pub countdown : c .countdown ≤ release-ticks
   pub phase : PhaseIn s (c .phase) (c .timer)
   pub out : c .out ≤ suc overdue-ticks
@@ -103,10 +113,16 @@ module _ (s : Entry) (c : Crossing) where
       let o = and-both _ (leb (c .out) (suc overdue-ticks)) q in
       let p = and-both _ (phase-in s (c .phase) (c .timer)) (o .0) in
       let d = and-both _ (leb (c .countdown) release-ticks) (p .0) in
-      let b = and-both (all-below 4 (track-in s c)) (all-below 4 (boom-in s c)) (d .0) in
+      let k = and-both _ (flag-in (c .kiosk) && flag-in (c .operator)) (d .0) in
+      let f = and-both (flag-in (c .kiosk)) (flag-in (c .operator)) (k .1) in
+      let m = and-both _ (all-below 5 (λ l. flag-in (lamp-flag c l))) (k .0) in
+      let b = and-both (all-below 4 (track-in s c)) (all-below 4 (boom-in s c)) (m .0) in
       record {
         track = λ t l. track-reads c t s (all-below-at 4 (track-in s c) (b .0) t l);
         boom = all-below-at 4 (boom-in s c) (b .1);
+        lamp = λ n l. leb-true _ _ (all-below-at 5 (λ l. flag-in (lamp-flag c l)) (m .1) n l);
+        kiosk = leb-true _ _ (f .0);
+        operator = leb-true _ _ (f .1);
         countdown = leb-true _ _ (d .1);
         phase = phase-reads s (c .phase) (c .timer) (p .1);
         out = leb-true _ _ (o .1);
@@ -115,9 +131,11 @@ module _ (s : Entry) (c : Crossing) where
   pub crossing-tests : CrossingIn s c → crossing-in s c ≡ true
   unfolding crossing-in
   crossing-tests h =
-      and-intro (and-intro (and-intro (and-intro
+      and-intro (and-intro (and-intro (and-intro (and-intro (and-intro
       (all-below-intro 4 (track-in s c) (λ t l. track-tests c t s (h .track t l)))
       (all-below-intro 4 (boom-in s c) (h .boom)))
+      (all-below-intro 5 (λ l. flag-in (lamp-flag c l)) (λ l m. le-leb _ _ (h .lamp l m))))
+      (and-intro (le-leb _ _ (h .kiosk)) (le-leb _ _ (h .operator))))
       (le-leb _ _ (h .countdown)))
       (phase-tests s (c .phase) (c .timer) (h .phase)))
       (le-leb _ _ (h .out))
@@ -126,9 +144,9 @@ module _ (s : Entry) (c : Crossing) where
 pub record NoCrossing (c : Crossing) : Type 0 where
   pub track : (t : ℕ) → t < 4 → ZeroAt c t
   pub boom : (b : ℕ) → b < 4 → boom c b ≡ 0
-  pub lamp : (l : ℕ) → l < 5 → lamp c l ≡ false
-  pub kiosk : c .kiosk ≡ false
-  pub operator : c .operator ≡ false
+  pub lamp : (l : ℕ) → l < 5 → lamp-flag c l ≡ 0
+  pub kiosk : c .kiosk ≡ 0
+  pub operator : c .operator ≡ 0
   pub countdown : c .countdown ≡ 0
   pub phase : c .phase ≡ 0
   pub timer : c .timer ≡ 0
@@ -142,16 +160,16 @@ module _ (c : Crossing) where
       let i = and-both _ (eqb (c .timer) 0) (o .0) in
       let p = and-both _ (eqb (c .phase) 0) (i .0) in
       let d = and-both _ (eqb (c .countdown) 0) (p .0) in
-      let h = and-both _ (not (c .operator)) (d .0) in
-      let k = and-both _ (not (c .kiosk)) (h .0) in
-      let l = and-both _ (all-below 5 (λ l. not (lamp c l))) (k .0) in
+      let h = and-both _ (eqb (c .operator) 0) (d .0) in
+      let k = and-both _ (eqb (c .kiosk) 0) (h .0) in
+      let l = and-both _ (all-below 5 (λ l. eqb (lamp-flag c l) 0)) (k .0) in
       let b = and-both (all-below 4 (track-zero c)) (all-below 4 (λ b. eqb (boom c b) 0)) (l .0) in
       record {
         track = λ t m. zero-reads c t (all-below-at 4 (track-zero c) (b .0) t m);
         boom = λ n m. eqb-true _ _ (all-below-at 4 (λ b. eqb (boom c b) 0) (b .1) n m);
-        lamp = λ n m. not-true _ (all-below-at 5 (λ l. not (lamp c l)) (l .1) n m);
-        kiosk = not-true _ (k .1);
-        operator = not-true _ (h .1);
+        lamp = λ n m. eqb-true _ _ (all-below-at 5 (λ l. eqb (lamp-flag c l) 0) (l .1) n m);
+        kiosk = eqb-true _ _ (k .1);
+        operator = eqb-true _ _ (h .1);
         countdown = eqb-true _ _ (d .1);
         phase = eqb-true _ _ (p .1);
         timer = eqb-true _ _ (i .1);
@@ -164,8 +182,8 @@ module _ (c : Crossing) where
       and-intro (and-intro (and-intro (and-intro (and-intro (and-intro (and-intro (and-intro
       (all-below-intro 4 (track-zero c) (λ t m. zero-tests c t (h .track t m)))
       (all-below-intro 4 (λ b. eqb (boom c b) 0) (λ b m. eq-eqb _ _ (h .boom b m))))
-      (all-below-intro 5 (λ l. not (lamp c l)) (λ l m. ap not (h .lamp l m))))
-      (ap not (h .kiosk))) (ap not (h .operator)))
+      (all-below-intro 5 (λ l. eqb (lamp-flag c l) 0) (λ l m. eq-eqb _ _ (h .lamp l m))))
+      (eq-eqb _ _ (h .kiosk))) (eq-eqb _ _ (h .operator)))
       (eq-eqb _ _ (h .countdown))) (eq-eqb _ _ (h .phase))) (eq-eqb _ _ (h .timer))) (eq-eqb _ _ (h .out))
 
 -- The plant ------------------------------------------------------------------------------------------------------------------------

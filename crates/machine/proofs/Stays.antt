@@ -7,13 +7,13 @@ use lib.Dec.{eqb, ltb, leb, lit<}
 use lib.ListN.{getD}
 use borrow.Author.Tests.{eqb-true, eqb-false, leb-true, le-leb, lt-ltb}
 use Rattle.machine.specs.Common.{tab, bit}
-use Rattle.machine.specs.Plant.{Entry, Crossing, Plant, release-ticks, overdue-ticks, full, calling, waiting, route, occupied, boom, lamp, trains, entry, crossing, no-crossing, dependent, boom-count, reason, booms-up}
+use Rattle.machine.specs.Plant.{Entry, Crossing, Plant, release-ticks, overdue-ticks, full, calling, waiting, route-flag, occupied-flag, boom, lamp-flag, trains, entry, crossing, no-crossing, dependent, boom-count, reason, booms-up}
 use Rattle.machine.specs.Range.{in-range, boom-in}
 use Rattle.machine.specs.Events.{Event, is, is-at, on-track, place-limit, value-limit, number}
 use Rattle.machine.specs.Effects.{calling-after, waiting-after, cancels, act, releases, phase-ticked, timer-ticked, tick}
 use Rattle.machine.specs.Settling.{phase-settled, timer-settled, out-settled, with-phase, settle}
 use Rattle.machine.specs.Step.{touch, apply, step}
-use Rattle.machine.proofs.Tools.{by-test, by-cond, and-both, getD-tab}
+use Rattle.machine.proofs.Tools.{by-test, by-cond, and-both, getD-tab, each-tab}
 use Rattle.machine.proofs.Trains.{at-place, trains-after}
 use Rattle.machine.proofs.Taken.{Accepted, taken-accepted, taken-crossing, taken-answer, refused-answer}
 use Rattle.machine.proofs.Entries.{EntryIn, zero-kind}
@@ -31,6 +31,9 @@ module _ (s : Entry) (g : EntryIn s) where
   settles add c l h = record {
     track = h .track;
     boom = h .boom;
+    lamp = h .lamp;
+    kiosk = h .kiosk;
+    operator = h .operator;
     countdown = h .countdown;
     phase = phase-settles s g (reason c) (booms-up (s .kind) (boom c)) (h .phase);
     out = out-law _ add (c .out) l;
@@ -41,13 +44,16 @@ module _ (s : Entry) (g : EntryIn s) where
   ticks c h = record {
     track = λ t l. let k = h .track t l in rw (getD-tab 4 (λ t. cond (releases c) 0 (calling c t)) 0 t l, getD-tab 4 (λ t. cond (releases c) 0 (waiting c t)) 0 t l) (cleared t (releases c) k);
     boom = h .boom;
+    lamp = h .lamp;
+    kiosk = h .kiosk;
+    operator = h .operator;
     countdown = less (c .countdown) release-ticks (h .countdown);
     phase = phase-ticks s g (h .phase);
     out = h .out;
   }
     where
-      cleared : (t : ℕ) (b : Bool) {k w : ℕ} {r o : Bool} → TrackIn s t k w r o → TrackIn s t (cond b 0 k) (cond b 0 w) r o
-      cleared t true h = record { few = omega arith; plain = λ d. (refl, h .plain d .1); lacking = λ m. let z = h .lacking m in record { calling = refl; waiting = refl; route = z .route; occupied = z .occupied } }
+      cleared : (t : ℕ) (b : Bool) {k w r o : ℕ} → TrackIn s t k w r o → TrackIn s t (cond b 0 k) (cond b 0 w) r o
+      cleared t true h = record { few = omega arith; route = h .route; occupied = h .occupied; plain = λ d. (refl, h .plain d .1); lacking = λ m. let z = h .lacking m in record { calling = refl; waiting = refl; route = z .route; occupied = z .occupied } }
       cleared t false h = h
 
   -- an event of codes 1 to 9 at its own crossing
@@ -78,16 +84,25 @@ module _ (s : Entry) (g : EntryIn s) where
         by-cond (λ x. x ≡ 0) (is-at 2 t e) (λ _. omega arith) (λ _.
         by-cond (λ x. x ≡ 0) (is-at 5 t e && eqb (e .value) 1) (λ _. refl) (λ _. z))))
 
-    plain-route : (t : ℕ) (r : Bool) → dependent s t ≡ false → r ≡ false → cond (is-at 5 t e) (eqb (e .value) 1) r ≡ false
-    plain-route t r d z = by-cond (λ x. x ≡ false) (is-at 5 t e)
+    plain-route : (t r : ℕ) → dependent s t ≡ false → r ≡ 0 → cond (is-at 5 t e) (e .value) r ≡ 0
+    plain-route t r d z = by-cond (λ x. x ≡ 0) (is-at 5 t e)
         (λ q. absurd (true≢false (sym (at-place (λ u. dependent s u ≡ true) 5 t e (a .routed) q) ∙ d)))
         (λ _. z)
 
-    track-acts : (t : ℕ) → TrackAt s c t → TrackIn s t (calling-after s c e t) (waiting-after s c e t) (cond (is-at 5 t e) (eqb (e .value) 1) (route c t)) (cond (is-at 6 t e) (eqb (e .value) 1) (occupied c t))
-    unfolding calling-after waiting-after
+    -- what an event of an on-off code k stores is a flag
+    flag : (k : ℕ) (b : Bool) {x : ℕ} → value-limit k ≡ 2 → (b ≡ true → is k e ≡ true) → x ≤ 1 → cond b (e .value) x ≤ 1
+    flag k b v f l = by-cond (λ y. y ≤ 1) b (λ q. let w : e .value < 2 = rw (eqb-true (e .code) k (f q), v) at (a .value) in omega arith) (λ _. l)
+
+    flag-at : (k t : ℕ) {x : ℕ} → value-limit k ≡ 2 → x ≤ 1 → cond (is-at k t e) (e .value) x ≤ 1
+    flag-at k t v = flag k (is-at k t e) v (λ q. and-both (is k e) (eqb (e .place) t) q .0)
+
+    track-acts : (t : ℕ) → TrackAt s c t → TrackIn s t (calling-after s c e t) (waiting-after s c e t) (cond (is-at 5 t e) (e .value) (route-flag c t)) (cond (is-at 6 t e) (e .value) (occupied-flag c t))
+    unfolding calling-after waiting-after value-limit
     track-acts t h = record {
       few = few t (h .few);
-      plain = λ d. (plain-waits t d (h .plain d .0), plain-route t (route c t) d (h .plain d .1));
+      route = flag-at 5 t refl (h .route);
+      occupied = flag-at 6 t refl (h .occupied);
+      plain = λ d. (plain-waits t d (h .plain d .0), plain-route t (route-flag c t) d (h .plain d .1));
       lacking = λ m. let z = h .lacking m in rw (elsewhere 1 t refl m, elsewhere 2 t refl m, elsewhere 5 t refl m, elsewhere 6 t refl m) z;
     }
 
@@ -104,16 +119,19 @@ module _ (s : Entry) (g : EntryIn s) where
         (λ _. h)
 
     acts : CrossingIn s c → CrossingIn s (act s c e)
-    unfolding act
+    unfolding act value-limit
     acts h = record {
       track = λ t l. rw (
         getD-tab 4 (calling-after s c e) 0 t l,
         getD-tab 4 (waiting-after s c e) 0 t l,
-        getD-tab 4 (λ t. cond (is-at 5 t e) (eqb (e .value) 1) (route c t)) false t l,
-        getD-tab 4 (λ t. cond (is-at 6 t e) (eqb (e .value) 1) (occupied c t)) false t l,
+        getD-tab 4 (λ t. cond (is-at 5 t e) (e .value) (route-flag c t)) 0 t l,
+        getD-tab 4 (λ t. cond (is-at 6 t e) (e .value) (occupied-flag c t)) 0 t l,
       )
           (track-acts t (h .track t l));
       boom = λ b l. rw (getD-tab 4 (λ b. cond (is-at 8 b e) (e .value) (boom c b)) 0 b l) (boom-acts b (h .boom b l));
+      lamp = each-tab 5 (λ l. cond (is-at 9 l e) (e .value) (lamp-flag c l)) 0 (λ l x. x ≤ 1) (λ l b. flag-at 9 l refl (h .lamp l b));
+      kiosk = flag 3 (is 3 e) refl (λ q. q) (h .kiosk);
+      operator = flag 4 (is 4 e) refl (λ q. q) (h .operator);
       countdown = by-cond (λ x. x ≤ release-ticks) (is 7 e) (λ _. omega arith) (λ _. by-cond (λ x. x ≤ release-ticks) (cancels e) (λ _. omega arith) (λ _. h .countdown));
       phase = h .phase;
       out = h .out;

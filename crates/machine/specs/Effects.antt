@@ -1,9 +1,9 @@
 -- What a taken event does to its own crossing, and a tick to each, before the crossing settles.
-use mathlib.Core.Bool.{Bool, false, cond, not, _&&_, _||_}
+use mathlib.Core.Bool.{Bool, cond, not, _&&_, _||_}
 use Prim.Native.Nat.{ℕ, _+_, _-_, pred}
 use lib.Dec.{eqb}
 use Rattle.machine.specs.Common.{tab, bit}
-use Rattle.machine.specs.Plant.{Entry, Crossing, release-ticks, calling, waiting, route, occupied, boom, lamp, dependent, total}
+use Rattle.machine.specs.Plant.{Entry, Crossing, release-ticks, calling, waiting, route-flag, route, occupied-flag, boom, lamp-flag, dependent, total}
 use Rattle.machine.specs.Events.{Event, is, is-to, is-at}
 
 -- An event of codes 1 to 9 -------------------------------------------------------------------------------------------------------
@@ -36,12 +36,12 @@ unfoldable pub act : Entry → Crossing → Event → Crossing
 act s c e = record {
   calling = tab 4 (calling-after s c e);
   waiting = tab 4 (waiting-after s c e);
-  route = tab 4 (λ t. cond (is-at 5 t e) (eqb (e .value) 1) (route c t));
-  occupied = tab 4 (λ t. cond (is-at 6 t e) (eqb (e .value) 1) (occupied c t));
+  route = tab 4 (λ t. cond (is-at 5 t e) (e .value) (route-flag c t));
+  occupied = tab 4 (λ t. cond (is-at 6 t e) (e .value) (occupied-flag c t));
   booms = tab 4 (λ b. cond (is-at 8 b e) (e .value) (boom c b));
-  lamps = tab 5 (λ l. cond (is-at 9 l e) (eqb (e .value) 1) (lamp c l));
-  kiosk = cond (is 3 e) (eqb (e .value) 1) (c .kiosk);
-  operator = cond (is 4 e) (eqb (e .value) 1) (c .operator);
+  lamps = tab 5 (λ l. cond (is-at 9 l e) (e .value) (lamp-flag c l));
+  kiosk = cond (is 3 e) (e .value) (c .kiosk);
+  operator = cond (is 4 e) (e .value) (c .operator);
   countdown = cond (is 7 e) release-ticks (cond (cancels e) 0 (c .countdown));
   phase = c .phase;
   timer = c .timer;

@@ -5,7 +5,7 @@ use lib.Dec.{eqb, ltb, leb}
 pub use Rattle.machine.specs.declared.Event.{Event}
 use Rattle.machine.specs.Common.{any-below, refuse}
 use Rattle.machine.specs.Numbers.{unknown-code, unknown-crossing, unknown-place, unknown-value, track-full, no-train, train-calling, not-clear, not-dependent, out-of-range}
-use Rattle.machine.specs.Plant.{Entry, Crossing, Plant, full, calling, route, occupied, trains, entry, crossing, dependent, boom-count}
+use Rattle.machine.specs.Plant.{Entry, Crossing, Plant, full, calling, route, occupied, kiosk, operator, trains, entry, crossing, dependent, boom-count}
 use Rattle.machine.specs.Range.{in-range}
 
 -- an event of this code
@@ -47,7 +47,7 @@ any-calling c = any-below 4 (λ t. ltb 0 (calling c t))
 
 -- a hold on, a route set or an approach occupied: time release is refused
 abbrev pub blocked : Crossing → Bool
-blocked c = c .kiosk || c .operator || any-below 4 (λ t. route c t || occupied c t)
+blocked c = kiosk c || operator c || any-below 4 (λ t. route c t || occupied c t)
 
 -- An event: 5, 6, 7, 8, 13, then 9 to 12; 0 where it is taken. n crossings; s and c are its own crossing's
 unfoldable pub refusal : ℕ → Entry → Crossing → Event → ℕ

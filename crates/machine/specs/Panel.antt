@@ -6,7 +6,7 @@ use lib.Dec.{eqb, ltb, leb}
 use lib.ListN.{length}
 use Rattle.machine.specs.Common.{concat-below, sum4, bit, refuse, low, high}
 use Rattle.machine.specs.Numbers.{bad-output-length, out-of-range}
-use Rattle.machine.specs.Plant.{Entry, Crossing, Plant, overdue-ticks, calling, waiting, route, boom, lamp, entry, crossing, dependent, booms-down, normal, secured}
+use Rattle.machine.specs.Plant.{Entry, Crossing, Plant, overdue-ticks, calling, waiting, route, boom, lamp, kiosk, operator, entry, crossing, dependent, booms-down, normal, secured}
 use Rattle.machine.specs.Range.{in-range}
 
 -- there are booms: kinds 2 to 4
@@ -76,7 +76,7 @@ status s c = bit (normal s c) 1 + bit (secured s c) 2 + bit (ltb overdue-ticks (
 
 -- byte 11, holds: 1 kiosk + 2 operator
 unfoldable pub holds : Crossing → ℕ
-holds c = bit (c .kiosk) 1 + bit (c .operator) 2
+holds c = bit (kiosk c) 1 + bit (operator c) 2
 
 -- the sixteen bytes; the last four are calling and waiting, summed over tracks, low byte first
 unfoldable pub row : ℕ → Entry → Crossing → List ℕ

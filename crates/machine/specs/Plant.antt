@@ -1,5 +1,5 @@
 -- What the plant holds: how a record is read, the fresh plant, and what document 01 says of a whole crossing.
-use mathlib.Core.Bool.{Bool, true, false, cond, not, _&&_, _||_}
+use mathlib.Core.Bool.{Bool, false, cond, not, _&&_, _||_}
 use Prim.Native.Nat.{ℕ, _+_, _/_, _%_, _^_}
 use lib.Dec.{eqb, ltb, leb}
 use lib.ListN.{getD}
@@ -7,7 +7,7 @@ pub use Rattle.machine.specs.declared.Entry.{Entry}
 pub use Rattle.machine.specs.declared.Site.{Site}
 pub use Rattle.machine.specs.declared.Crossing.{Crossing}
 pub use Rattle.machine.specs.declared.Plant.{Plant}
-use Rattle.machine.specs.Common.{tab, all-below, any-below, sum4}
+use Rattle.machine.specs.Common.{tab, all-below, any-below, sum4, bit}
 
 -- Constants ----------------------------------------------------------------------------------------------------------------------
 -- the release countdown begins here
@@ -31,21 +31,45 @@ calling c t = getD (c .calling) t 0
 abbrev pub waiting : Crossing → ℕ → ℕ
 waiting c t = getD (c .waiting) t 0
 
+-- A flag is a number: 1 on, 0 off
+abbrev pub is-on : ℕ → Bool
+is-on flag = eqb flag 1
+
+-- the flag of track t: route set
+abbrev pub route-flag : Crossing → ℕ → ℕ
+route-flag c t = getD (c .route) t 0
+
 -- the route of track t is set
 abbrev pub route : Crossing → ℕ → Bool
-route c t = getD (c .route) t false
+route c t = is-on (route-flag c t)
+
+-- the flag of track t: approach occupied
+abbrev pub occupied-flag : Crossing → ℕ → ℕ
+occupied-flag c t = getD (c .occupied) t 0
 
 -- the approach of track t is occupied
 abbrev pub occupied : Crossing → ℕ → Bool
-occupied c t = getD (c .occupied) t false
+occupied c t = is-on (occupied-flag c t)
 
 -- the last report of boom b: 0 up, 1 moving, 2 down
 abbrev pub boom : Crossing → ℕ → ℕ
 boom c b = getD (c .booms) b 0
 
--- the last report of lamp l: it is whole
+-- the last report of lamp l: 0 dead, 1 whole
+abbrev pub lamp-flag : Crossing → ℕ → ℕ
+lamp-flag c l = getD (c .lamps) l 0
+
+-- lamp l was last reported whole
 abbrev pub lamp : Crossing → ℕ → Bool
-lamp c l = getD (c .lamps) l false
+lamp c l = is-on (lamp-flag c l)
+
+-- the kiosk hold is on
+abbrev pub kiosk : Crossing → Bool
+kiosk c = is-on (c .kiosk)
+
+-- the operator hold is on
+abbrev pub operator : Crossing → Bool
+operator c = is-on (c .operator)
 
 -- the trains of track t
 abbrev pub trains : Crossing → ℕ → ℕ
@@ -64,12 +88,12 @@ abbrev pub fresh-crossing : Bool → Crossing
 fresh-crossing used = record {
   calling = tab 4 (λ t. 0);
   waiting = tab 4 (λ t. 0);
-  route = tab 4 (λ t. false);
-  occupied = tab 4 (λ t. false);
+  route = tab 4 (λ t. 0);
+  occupied = tab 4 (λ t. 0);
   booms = tab 4 (λ b. 0);
-  lamps = tab 5 (λ l. used);
-  kiosk = false;
-  operator = false;
+  lamps = tab 5 (λ l. bit used 1);
+  kiosk = 0;
+  operator = 0;
   countdown = 0;
   phase = 0;
   timer = 0;
@@ -111,7 +135,7 @@ reason-of kiosk operator calling = kiosk || operator || any-below 4 (λ t. ltb 0
 
 -- the reason of a crossing
 unfoldable pub reason : Crossing → Bool
-reason c = reason-of (c .kiosk) (c .operator) (calling c)
+reason c = reason-of (kiosk c) (operator c) (calling c)
 
 -- every boom reported up
 unfoldable pub booms-up : ℕ → (ℕ → ℕ) → Bool

@@ -1,9 +1,9 @@
 -- Ranges: number 15, a held number outside its range, and the ranges of the settings (number 3).
-use mathlib.Core.Bool.{Bool, cond, not, _&&_, _||_}
+use mathlib.Core.Bool.{Bool, cond, _&&_, _||_}
 use Prim.Native.Nat.{ℕ, suc, _^_}
 use lib.Dec.{eqb, ltb, leb}
 use Rattle.machine.specs.Common.{all-below}
-use Rattle.machine.specs.Plant.{Entry, Crossing, Plant, release-ticks, overdue-ticks, full, calling, waiting, route, occupied, boom, lamp, trains, entry, crossing, dependent, boom-count}
+use Rattle.machine.specs.Plant.{Entry, Crossing, Plant, release-ticks, overdue-ticks, full, calling, waiting, route-flag, occupied-flag, boom, lamp-flag, trains, entry, crossing, dependent, boom-count}
 
 -- G: 1 to 90 for kind 4, otherwise 0
 abbrev pub gap-in : ℕ → ℕ → Bool
@@ -22,15 +22,21 @@ entry-in s =
 unfoldable pub entry-zero : Entry → Bool
 entry-zero s = eqb (s .kind) 0 && eqb (s .tracks) 0 && eqb (s .mask) 0 && eqb (s .pre) 0 && eqb (s .gap) 0
 
+-- a flag is 0 or 1
+abbrev pub flag-in : ℕ → Bool
+flag-in flag = leb flag 1
+
 -- nothing on a track
 abbrev pub track-zero : Crossing → ℕ → Bool
-track-zero c t = eqb (calling c t) 0 && eqb (waiting c t) 0 && not (route c t) && not (occupied c t)
+track-zero c t = eqb (calling c t) 0 && eqb (waiting c t) 0 && eqb (route-flag c t) 0 && eqb (occupied-flag c t) 0
 
--- trains together at most 255; a plain track has no train waiting and no route; a track that the crossing lacks is all zero
+-- trains together at most 255; route and occupation are flags; a plain track has no train waiting and no route; a track that the
+-- crossing lacks is all zero
 unfoldable pub track-in : Entry → Crossing → ℕ → Bool
 track-in s c t =
     leb (trains c t) full
-    && (dependent s t || (eqb (waiting c t) 0 && not (route c t)))
+    && (flag-in (route-flag c t) && flag-in (occupied-flag c t))
+    && (dependent s t || (eqb (waiting c t) 0 && eqb (route-flag c t) 0))
     && (ltb t (s .tracks) || track-zero c t)
 
 -- a report is 0 to 2; a boom that the crossing lacks is 0
@@ -49,6 +55,8 @@ unfoldable pub crossing-in : Entry → Crossing → Bool
 crossing-in s c =
     all-below 4 (track-in s c)
     && all-below 4 (boom-in s c)
+    && all-below 5 (λ l. flag-in (lamp-flag c l))
+    && (flag-in (c .kiosk) && flag-in (c .operator))
     && leb (c .countdown) release-ticks
     && phase-in s (c .phase) (c .timer)
     && leb (c .out) (suc overdue-ticks)
@@ -58,8 +66,8 @@ unfoldable pub crossing-zero : Crossing → Bool
 crossing-zero c =
     all-below 4 (track-zero c)
     && all-below 4 (λ b. eqb (boom c b) 0)
-    && all-below 5 (λ l. not (lamp c l))
-    && not (c .kiosk) && not (c .operator)
+    && all-below 5 (λ l. eqb (lamp-flag c l) 0)
+    && eqb (c .kiosk) 0 && eqb (c .operator) 0
     && eqb (c .countdown) 0 && eqb (c .phase) 0 && eqb (c .timer) 0 && eqb (c .out) 0
 
 -- the entry and the record at place i of n

@@ -23,18 +23,19 @@ pub struct Site {
 }
 
 // One crossing: four arrays by track, the last reports of its booms and lamps, and its numbers.
+// A flag (route, occupied, lamps, holds) is a byte, 0 or 1: every other value is out of its range.
 // Booms: 0 up, 1 moving, 2 down. Lamps: road white, road red, train signal red, train signal white, flasher.
 // Phases: 0 open, 1 warning, 2 right booms ordered down, 3 all ordered down, 4 raising.
 #[repr(C)]
 pub struct Crossing {
     pub calling: [u8; 4],
     pub waiting: [u8; 4],
-    pub route: [bool; 4],
-    pub occupied: [bool; 4],
+    pub route: [u8; 4],
+    pub occupied: [u8; 4],
     pub booms: [u8; 4],
-    pub lamps: [bool; 5],
-    pub kiosk: bool,
-    pub operator: bool,
+    pub lamps: [u8; 5],
+    pub kiosk: u8,
+    pub operator: u8,
     pub countdown: u16,
     pub phase: u8,
     pub timer: u16,
@@ -100,12 +101,12 @@ impl Crossing {
         Crossing {
             calling: [0; 4],
             waiting: [0; 4],
-            route: [false; 4],
-            occupied: [false; 4],
+            route: [0; 4],
+            occupied: [0; 4],
             booms: [0; 4],
-            lamps: [used; 5],
-            kiosk: false,
-            operator: false,
+            lamps: [used as u8; 5],
+            kiosk: 0,
+            operator: 0,
             countdown: 0,
             phase: 0,
             timer: 0,

@@ -1,12 +1,12 @@
 // The bytes of a row, over numbers and tests.
 use machine::Entry;
-ghost use mathlib.Core.Bool.{_&&_, cond, false};
+ghost use mathlib.Core.Bool.{_&&_, cond};
 ghost use mathlib.Core.Path.{_≡_};
 ghost use Prim.Native.Nat.{_+_, _≤_};
 ghost use lib.Dec.{eqb};
 ghost use lib.ListN.{getD};
 ghost use Rattle.machine.specs.Common.{bit, sum4};
-ghost use Rattle.machine.specs.Plant.{dependent};
+ghost use Rattle.machine.specs.Plant.{dependent, is-on};
 ghost use Rattle.machine.specs.Panel.{rhythm};
 
 // A value where the test holds, otherwise 0.
@@ -69,14 +69,14 @@ pub fn rhythm(beat: u8, flasher: bool, normal: bool) -> bool
 }
 
 // Main signals released: a bit for each dependent track with its route set, when secured.
-pub fn released(s: Entry, route: [bool; 4], secured: bool) -> u8
-    ensures { λ r. ⌜ r ≡ bit (dependent s 0 && getD route 0 false && secured) 1 + bit (dependent s 1 && getD route 1 false && secured) 2 + bit (dependent s 2 && getD route 2 false && secured) 4 + bit (dependent s 3 && getD route 3 false && secured) 8 ⌝ }
+pub fn released(s: Entry, route: [u8; 4], secured: bool) -> u8
+    ensures { λ r. ⌜ r ≡ bit (dependent s 0 && is-on (getD route 0 0) && secured) 1 + bit (dependent s 1 && is-on (getD route 1 0) && secured) 2 + bit (dependent s 2 && is-on (getD route 2 0) && secured) 4 + bit (dependent s 3 && is-on (getD route 3 0) && secured) 8 ⌝ }
 {
     flags(
-        kind::dependent(s, 0) & route[0] & secured,
-        kind::dependent(s, 1) & route[1] & secured,
-        kind::dependent(s, 2) & route[2] & secured,
-        kind::dependent(s, 3) & route[3] & secured,
+        kind::dependent(s, 0) & (route[0] == 1) & secured,
+        kind::dependent(s, 1) & (route[1] == 1) & secured,
+        kind::dependent(s, 2) & (route[2] == 1) & secured,
+        kind::dependent(s, 3) & (route[3] == 1) & secured,
     )
 }
 

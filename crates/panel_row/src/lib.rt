@@ -18,7 +18,7 @@ pub fn is_secured(s: Entry, c: Crossing) -> bool
     ensures { λ r. ⌜ r ≡ secured s c ⌝ }
 {
     let booms = c.booms;
-    (c.phase == 3) & c.lamps[1] & kind::booms::closed(s.kind, booms)
+    (c.phase == 3) & (c.lamps[1] == 1) & kind::booms::closed(s.kind, booms)
 }
 
 // The sixteen bytes of one crossing.
@@ -31,9 +31,9 @@ pub fn row(beat: u8, s: Entry, c: Crossing) -> [u8; 16]
     let calling = panel_bytes::sum(c.calling);
     let waiting = panel_bytes::sum(c.waiting);
     let has_booms = 2 <= s.kind;
-    let road = panel_bytes::road(normal, c.lamps[0], c.lamps[1]);
-    let signal = panel_bytes::signal(secured, c.lamps[3], c.lamps[2]);
-    let on = panel_bytes::rhythm(beat, c.lamps[4], normal);
+    let road = panel_bytes::road(normal, c.lamps[0] == 1, c.lamps[1] == 1);
+    let signal = panel_bytes::signal(secured, c.lamps[3] == 1, c.lamps[2] == 1);
+    let on = panel_bytes::rhythm(beat, c.lamps[4] == 1, normal);
     [
         road,
         panel_bytes::flags(
@@ -51,7 +51,7 @@ pub fn row(beat: u8, s: Entry, c: Crossing) -> [u8; 16]
         panel_bytes::released(s, c.route, secured),
         panel_bytes::flags(normal, secured, Crossing::OVERDUE < c.out, false),
         c.phase,
-        panel_bytes::flags(c.kiosk, c.operator, false, false),
+        panel_bytes::flags(c.kiosk == 1, c.operator == 1, false, false),
         word::low(calling),
         word::high(calling),
         word::low(waiting),

@@ -1,6 +1,5 @@
 -- The array of crossings of a plant: its length, and a crossing read within it.
 use mathlib.Core.Path.{_≡_, refl}
-use mathlib.Core.Bool.{false}
 use mathlib.Core.List.{List, [], _∷_}
 use Prim.Native.Nat.{ℕ, zero, suc, _<_}
 use native.Mathlib.Omega.{arith}
@@ -32,8 +31,8 @@ unread = record {
   occupied = [];
   booms = [];
   lamps = [];
-  kiosk = false;
-  operator = false;
+  kiosk = 0;
+  operator = 0;
   countdown = 0;
   phase = 0;
   timer = 0;

@@ -20,7 +20,7 @@ pub fn stands(c: Crossing) -> bool
     ensures { λ r. ⌜ r ≡ reason c ⌝ }
 {
     let calling = c.calling;
-    c.kiosk | c.operator | any_calling(calling)
+    (c.kiosk == 1) | (c.operator == 1) | any_calling(calling)
 }
 
 // The phase after settling.

@@ -86,12 +86,12 @@ fn held_by_train(c: Crossing, value: u8) -> bool
 fn blocked(c: Crossing) -> bool
     ensures { λ r. ⌜ r ≡ blocked c ⌝ }
 {
-    c.kiosk
-        | c.operator
-        | ((c.route[0] | c.occupied[0])
-            | (c.route[1] | c.occupied[1])
-            | (c.route[2] | c.occupied[2])
-            | (c.route[3] | c.occupied[3]))
+    (c.kiosk == 1)
+        | (c.operator == 1)
+        | (((c.route[0] == 1) | (c.occupied[0] == 1))
+            | ((c.route[1] == 1) | (c.occupied[1] == 1))
+            | ((c.route[2] == 1) | (c.occupied[2] == 1))
+            | ((c.route[3] == 1) | (c.occupied[3] == 1)))
 }
 
 // Taken unless the test holds. Inside this crate alone: a number that refuses is not 0.

@@ -1,6 +1,6 @@
 use borrow.Author.Needs.{needs}
-use Rattle.plant.proofs.booms_in.Statement.{statement}
-use Rattle.plant.proofs.booms_in.Tie as tie
+use Rattle.held.proofs.booms_in.Statement.{statement}
+use Rattle.held.proofs.booms_in.Tie as tie
 
 boom-count-requires : tie.Need-boom-count-requires
 boom-count-requires c κs = search needs

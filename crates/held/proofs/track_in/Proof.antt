@@ -1,7 +1,7 @@
 use Rattle.machine.specs.Range.{track-in}
 use borrow.Author.Needs.{needs}
-use Rattle.plant.proofs.track_in.Statement.{statement}
-use Rattle.plant.proofs.track_in.Tie as tie
+use Rattle.held.proofs.track_in.Statement.{statement}
+use Rattle.held.proofs.track_in.Tie as tie
 
 cast-tracks : tie.Need-cast-tracks
 cast-tracks c = search needs
@@ -18,21 +18,27 @@ together-requires c κs = search needs
 cast-result : tie.Need-cast-result
 cast-result c = search needs
 
-dependent-requires : tie.Need-dependent-requires
-dependent-requires c κs = search needs
-
 element-copy-out-result : tie.Need-element-copy-out-result
 element-copy-out-result c = search needs
 
 element-copy-out-result-2 : tie.Need-element-copy-out-result-2
 element-copy-out-result-2 c = search needs
 
+dependent-requires : tie.Need-dependent-requires
+dependent-requires c κs = search needs
+
+element-copy-out-result-3 : tie.Need-element-copy-out-result-3
+element-copy-out-result-3 c = search needs
+
+element-copy-out-result-4 : tie.Need-element-copy-out-result-4
+element-copy-out-result-4 c = search needs
+
 track-zero-requires : tie.Need-track-zero-requires
 track-zero-requires c κs = search needs
 
 returns : tie.Need-returns
 unfolding track-in
-returns c = simp (c .track-zero .ensures, c .before .before .before .dependent .ensures, c .before .before .before .before .together .ensures)
+returns c = simp (c .track-zero .ensures, c .before .before .before .dependent .ensures, c .before .before .before .before .before .before .together .ensures)
 
 pub track-in-spec : {M : Type 1} → statement M
 track-in-spec =
@@ -43,8 +49,10 @@ track-in-spec =
     element-copy-out-together-2
     together-requires
     cast-result
-    dependent-requires
     element-copy-out-result
     element-copy-out-result-2
+    dependent-requires
+    element-copy-out-result-3
+    element-copy-out-result-4
     track-zero-requires
     returns)

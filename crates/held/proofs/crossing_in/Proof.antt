@@ -1,7 +1,7 @@
 use Rattle.machine.specs.Range.{crossing-in}
 use borrow.Author.Needs.{needs}
-use Rattle.plant.proofs.crossing_in.Statement.{statement}
-use Rattle.plant.proofs.crossing_in.Tie as tie
+use Rattle.held.proofs.crossing_in.Statement.{statement}
+use Rattle.held.proofs.crossing_in.Tie as tie
 
 track-in-requires : tie.Need-track-in-requires
 track-in-requires c κs = search needs
@@ -18,6 +18,9 @@ track-in-requires-4 c κs = search needs
 booms-in-requires : tie.Need-booms-in-requires
 booms-in-requires c κs = search needs
 
+lamps-in-requires : tie.Need-lamps-in-requires
+lamps-in-requires c κs = search needs
+
 phase-in-requires : tie.Need-phase-in-requires
 phase-in-requires c κs = search needs
 
@@ -26,7 +29,7 @@ add-result c = search needs
 
 returns : tie.Need-returns
 unfolding crossing-in
-returns c = simp (c .before .phase-in .ensures, c .before .before .before .booms-in .ensures, c .before .before .before .before .track-in4 .ensures, c .before .before .before .before .before .track-in3 .ensures, c .before .before .before .before .before .before .track-in2 .ensures, c .before .before .before .before .before .before .before .track-in .ensures)
+returns c = simp (c .before .phase-in .ensures, c .before .before .before .before .before .lamps-in .ensures, c .before .before .before .before .before .before .booms-in .ensures, c .before .before .before .before .before .before .before .track-in4 .ensures, c .before .before .before .before .before .before .before .before .track-in3 .ensures, c .before .before .before .before .before .before .before .before .before .track-in2 .ensures, c .before .before .before .before .before .before .before .before .before .before .track-in .ensures)
 
 pub crossing-in-spec : {M : Type 1} → statement M
 crossing-in-spec =
@@ -37,6 +40,7 @@ crossing-in-spec =
     track-in-requires-3
     track-in-requires-4
     booms-in-requires
+    lamps-in-requires
     phase-in-requires
     add-result
     returns)

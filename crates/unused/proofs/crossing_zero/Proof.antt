@@ -1,7 +1,7 @@
 use Rattle.machine.specs.Range.{crossing-zero}
 use borrow.Author.Needs.{needs}
-use Rattle.plant.proofs.crossing_zero.Statement.{statement}
-use Rattle.plant.proofs.crossing_zero.Tie as tie
+use Rattle.unused.proofs.crossing_zero.Statement.{statement}
+use Rattle.unused.proofs.crossing_zero.Tie as tie
 
 track-zero-requires : tie.Need-track-zero-requires
 track-zero-requires c κs = search needs

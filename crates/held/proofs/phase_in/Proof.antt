@@ -1,7 +1,7 @@
 use borrow.Author.Tests.{ne-eqb}
 use Rattle.machine.specs.Range.{phase-in}
-use Rattle.plant.proofs.phase_in.Statement.{statement}
-use Rattle.plant.proofs.phase_in.Tie as tie
+use Rattle.held.proofs.phase_in.Statement.{statement}
+use Rattle.held.proofs.phase_in.Tie as tie
 
 returns : tie.Need-returns
 unfolding phase-in

@@ -1,0 +1,81 @@
+// What one crossing holds is in its range (document 01, "What the plant holds").
+use machine::Crossing;
+use machine::Entry;
+ghost use mathlib.Core.Bool.{cond};
+ghost use mathlib.Core.Path.{_≡_};
+ghost use Prim.Native.Nat.{_+_, _<_};
+ghost use Rattle.machine.specs.Common.{all-below};
+ghost use Rattle.machine.specs.Plant.{lamp-flag};
+ghost use Rattle.machine.specs.Range.{boom-in, crossing-in, flag-in, phase-in, track-in};
+
+// The trains of a track together.
+fn together(calling: u8, waiting: u8) -> u16
+    ensures { λ r. ⌜ r ≡ calling + waiting ⌝ }
+{
+    (calling as u16) + (waiting as u16)
+}
+
+// What track t holds is in its range. Inside this crate alone: t is below 4.
+fn track_in(s: Entry, c: Crossing, t: usize) -> bool
+    requires { ⌜ t < 4 ⌝ }
+    ensures { λ r. ⌜ r ≡ track-in s c t ⌝ }
+{
+    let tracks = s.tracks as usize;
+    (together(c.calling[t], c.waiting[t]) <= Crossing::FULL as u16)
+        & ((c.route[t] <= 1) & (c.occupied[t] <= 1))
+        & (kind::dependent(s, t) | ((c.waiting[t] == 0) & (c.route[t] == 0)))
+        & ((t < tracks) | unused::track_zero(c, t))
+}
+
+// The highest report of a boom; a boom that the crossing lacks stays at 0.
+fn report_limit(present: bool) -> u8
+    ensures { λ r. ⌜ r ≡ cond present 2 0 ⌝ }
+{
+    if present { 2 } else { 0 }
+}
+
+// The last report of each boom is in its range.
+fn booms_in(s: Entry, c: Crossing) -> bool
+    ensures { λ r. ⌜ r ≡ all-below 4 (boom-in s c) ⌝ }
+{
+    let count = kind::boom_count(s.kind);
+    (c.booms[0] <= report_limit(0 < count))
+        & (c.booms[1] <= report_limit(1 < count))
+        & (c.booms[2] <= report_limit(2 < count))
+        & (c.booms[3] <= report_limit(3 < count))
+}
+
+// The last report of each lamp is 0 or 1.
+fn lamps_in(c: Crossing) -> bool
+    ensures { λ r. ⌜ r ≡ all-below 5 (λ l. flag-in (lamp-flag c l)) ⌝ }
+{
+    (c.lamps[0] <= 1)
+        & (c.lamps[1] <= 1)
+        & (c.lamps[2] <= 1)
+        & (c.lamps[3] <= 1)
+        & (c.lamps[4] <= 1)
+}
+
+// The timer is in the range that its phase gives it.
+fn phase_in(s: Entry, phase: u8, timer: u16) -> bool
+    ensures { λ r. ⌜ r ≡ phase-in s phase timer ⌝ }
+{
+    match phase {
+        1 => (1 <= timer) & (timer <= s.pre),
+        2 => (s.kind == 4) & ((1 <= timer) & (timer <= s.gap)),
+        _ => (timer == 0) & ((phase == 0) | (phase == 3) | ((phase == 4) & (2 <= s.kind))),
+    }
+}
+
+// The numbers of a crossing are in their ranges.
+pub fn crossing_in(s: Entry, c: Crossing) -> bool
+    ensures { λ r. ⌜ r ≡ crossing-in s c ⌝ }
+{
+    (track_in(s, c, 0) & track_in(s, c, 1) & track_in(s, c, 2) & track_in(s, c, 3))
+        & booms_in(s, c)
+        & lamps_in(c)
+        & ((c.kiosk <= 1) & (c.operator <= 1))
+        & (c.countdown <= Crossing::RELEASE)
+        & phase_in(s, c.phase, c.timer)
+        & (c.out <= Crossing::OVERDUE + 1)
+}
