@@ -16,7 +16,7 @@ use Rattle.machine.specs.Settling.{settle}
 use Rattle.machine.proofs.Tools.{below4}
 use Rattle.machine.proofs.Trains.{trains-after}
 use Rattle.demand.specs.Ledger as ledger
-use Rattle.demand.specs.Ledger.{count, written-off}
+use Rattle.demand.specs.Ledger.{count, State, next}
 use Rattle.demand.proofs.Agree.{Agree}
 
 -- a mark at one place of four
@@ -25,19 +25,19 @@ one-hot true place f = below4 (λ x. sum4 (λ t. bit (eqb x t) 1) ≡ 1) refl re
 one-hot false place f = refl
 
 -- strike-ins taken = passages taken + trains written off + trains there
-abbrev pub Even : Entry → Crossing → List Event → Type 0
-Even s c h = count 1 h ≡ count 2 h + written-off s h + total c
+abbrev pub Even : Crossing → State → List Event → Type 0
+Even c k h = count 1 h ≡ count 2 h + k .written + total c
 
-module _ {s : Entry} {c : Crossing} {h : List Event} (a : Agree s c h) (e : Event) where
+module _ (s : Entry) {c : Crossing} {k : State} (a : Agree c k) (e : Event) where
   -- what the ledger writes off for an event is what the machine does
-  pub written-more : written-off s (e ∷ h) ≡ written-at c e + written-off s h
-  unfolding written-off written-at
+  pub written-more : next s e k .written ≡ k .written + written-at c e
+  unfolding next written-at
   written-more = rw (same, ← a .countdown)
     where
-      at : (t : ℕ) → t < 4 → ledger.queue s t h .calling + ledger.queue s t h .waiting ≡ trains c t
+      at : (t : ℕ) → t < 4 → k .queue t .calling + k .queue t .waiting ≡ trains c t
       at t b = sym (ap (λ q. q .calling + q .waiting) (a .queue t b))
 
-      same : ledger.trains s h ≡ total c
+      same : ledger.trains k ≡ total c
       same = omega (arith, at 0 (lit< tt), at 1 (lit< tt), at 2 (lit< tt), at 3 (lit< tt))
 
   -- an event of this crossing: at a track where its code asks for one, and a passage of a train that is there
@@ -49,9 +49,9 @@ module _ {s : Entry} {c : Crossing} {h : List Event} (a : Agree s c h) (e : Even
         at : (t : ℕ) → calling-after s c e t + waiting-after s c e t + bit (is-at 2 t e) 1 ≡ trains c t + bit (is-at 1 t e) 1
         at t = trains-after s c e t there
 
-    pub own-even : Even s c h → Even s (settle s 0 (act s c e)) (e ∷ h)
+    pub own-even : (h : List Event) → Even c k h → Even (settle s 0 (act s c e)) (next s e k) (e ∷ h)
     unfolding count settle written-at
-    own-even v = let w = rw not-tick at written-more in omega (arith, own-total)
+    own-even h v = let w = rw not-tick at written-more in omega (arith, own-total)
 
   -- a tick
   module _ (z : e .code ≡ 0) where
@@ -63,9 +63,9 @@ module _ {s : Entry} {c : Crossing} {h : List Event} (a : Agree s c h) (e : Even
         both true = omega arith
         both false = omega arith
 
-    pub tick-even : Even s c h → Even s (settle s 1 (tick s c)) (e ∷ h)
+    pub tick-even : (h : List Event) → Even c k h → Even (settle s 1 (tick s c)) (next s e k) (e ∷ h)
     unfolding count settle
-    tick-even v =
+    tick-even h v =
         let no-strike-in : is 1 e ≡ false = rw z in
         let no-passage : is 2 e ≡ false = rw z in
         rw (no-strike-in, no-passage) (omega (arith, tick-total, written-more))

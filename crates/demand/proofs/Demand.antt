@@ -24,8 +24,7 @@ use Rattle.machine.proofs.Taken.{step-site}
 use Rattle.machine.proofs.Ranges.{PlantIn, plant-reads}
 use Rattle.machine.proofs.Laws.{fresh-in-range, panel-at}
 use Rattle.demand.specs.Words.{all-up, all-closed}
-use Rattle.demand.specs.Ledger.{log, boom-report}
-use Rattle.demand.specs.Demand.{stands-after, Unbroken, needed, shown, a-tick, Closed, Kept, Demand}
+use Rattle.demand.specs.Demand.{known, stands-after, Unbroken, needed, shown, a-tick, Closed, Kept, Demand}
 use Rattle.demand.proofs.Unbroken.{stands-now, at-least}
 use Rattle.demand.proofs.Timing.{rests, all-down}
 use Rattle.demand.proofs.Agree.{reason-stands}
@@ -58,7 +57,7 @@ module _ (p : Plant) (es : List Event) (k : Sound p es) (i : ℕ) (l : i < p .si
   no-timer-in : (test : ℕ → Bool) → test 1 ≡ false → test 2 ≡ false → test (c .phase) ≡ true → c .timer ≡ 0
   no-timer-in test a b = no-timer test a b (range .used i (rw (k .site) l) .phase)
 
-  booms-same : (f : ℕ → Bool) → each-boom (s .kind) (λ b. f (boom c b)) ≡ each-boom (s .kind) (λ b. f (boom-report (log p i es) b))
+  booms-same : (f : ℕ → Bool) → each-boom (s .kind) (λ b. f (boom c b)) ≡ each-boom (s .kind) (λ b. f (known p i es .boom b))
   booms-same f = all-below-same 4 _ _ (λ b d. ap (λ x. leb (boom-count (s .kind)) b || f x) (at .agree .boom b d))
 
   closed : secured s c ≡ true → Closed p es i
@@ -70,14 +69,14 @@ module _ (p : Plant) (es : List Event) (k : Sound p es) (i : ℕ) (l : i < p .si
       record {
         unbroken = at-least p i (needed s) es (u .2) (u .1);
         booms = sym (booms-same (λ x. cond (eqb (s .kind) 2) (not (eqb x 0)) (eqb x 2))) ∙ a .1;
-        red = sym (at .agree .red) ∙ b .1;
+        red = sym (at .agree .lamp 1 (lit< tt)) ∙ eqb-true _ _ (b .1);
       }
 
   module _ (none : stands-after p i es ≡ false) where
     at-rest : rests (c .phase) ≡ true
     at-rest = by-test (rests (c .phase)) (λ r. r) (λ r. absurd (true≢false (sym (stands-now p i (at .timed r .1)) ∙ none)))
 
-    after-tick : all-up (s .kind) (boom-report (log p i es)) ≡ true → shown (step q a-tick .plant) i 9 % 2 ≡ 1
+    after-tick : all-up (s .kind) (known p i es .boom) ≡ true → shown (step q a-tick .plant) i 9 % 2 ≡ 1
     unfolding booms-up all-up touch row
     after-tick up =
         let t = tick-taken q (k .range) in

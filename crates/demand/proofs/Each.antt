@@ -4,7 +4,7 @@ use mathlib.Core.Bool.{Bool, true, false, _||_, false≢true}
 use mathlib.Core.List.{List, [], _∷_, _++_}
 use Prim.Native.Nat.{ℕ, suc, _+_, _≤_, _<_}
 use native.Mathlib.Omega.{arith}
-use native.Mathlib.Nat.{zero-add}
+use native.Mathlib.Nat.{add-zero}
 use lib.Dec.{eqb}
 use borrow.Author.Tests.{eqb-true}
 use Rattle.machine.specs.declared.Entry.{Entry}
@@ -16,11 +16,11 @@ use Rattle.machine.specs.Events.{is, place-limit}
 use Rattle.machine.specs.Effects.{act, tick, written-at}
 use Rattle.machine.specs.Settling.{settle}
 use Rattle.machine.specs.Step.{after, touch}
-use Rattle.machine.proofs.Tools.{by-test, by-cond, neither, below4}
+use Rattle.machine.proofs.Tools.{by-test, by-cond, neither, below4, each-tab}
 use Rattle.machine.proofs.Taken.{Accepted}
 use Rattle.machine.proofs.Ranges.{PhaseIn, opened, warning, right, closed, raising}
-use Rattle.demand.specs.Ledger.{taken, note, log, count, last, countdown, queue, written-off}
-use Rattle.demand.specs.Demand.{stands-after, Unbroken}
+use Rattle.demand.specs.Ledger.{taken, note, log, count, State, next, state}
+use Rattle.demand.specs.Demand.{known, stands-after, Unbroken}
 use Rattle.demand.proofs.Lists.{log-snoc}
 use Rattle.demand.proofs.Unbroken.{stands-now, begins, goes-on}
 use Rattle.demand.proofs.Timing.{rests, Timed, timed-tick, timed-settled}
@@ -29,12 +29,12 @@ use Rattle.demand.proofs.Account.{Even, own-even, tick-even, written-mo
 
 -- what holds of crossing i, whose record is c after the list es from the plant p
 pub record Holds (p : Plant) (es : List Event) (i : ℕ) (c : Crossing) : Type 0 where
-  pub agree : Agree (entry p i) c (log p i es)
+  pub agree : Agree c (known p i es)
   pub timed : Timed (λ n. Unbroken p i n es) (entry p i) (c .phase) (c .timer)
-  pub even : Even (entry p i) c (log p i es)
+  pub even : Even c (known p i es) (log p i es)
 
 pub fresh-holds : (p : Plant) (i : ℕ) → Holds p [] i (fresh-crossing true)
-unfolding log last countdown queue count written-off
+unfolding log state count
 fresh-holds p i = record {
   agree = record {
     kiosk = refl;
@@ -43,7 +43,7 @@ fresh-holds p i = record {
     route = below4 _ refl refl refl refl;
     queue = below4 _ refl refl refl refl;
     boom = below4 _ refl refl refl refl;
-    red = refl;
+    lamp = each-tab 5 (λ l. 1) 0 (λ l x. x ≡ 1) (λ l b. refl);
   };
   timed = λ q. absurd (false≢true (sym q));
   even = refl;
@@ -63,6 +63,9 @@ module _ (p : Plant) (es : List Event) (e : Event) (i : ℕ) (c : Crossing) (k :
 
   abbrev h : List Event
   h = log p i es
+
+  abbrev b : State
+  b = known p i es
 
   abbrev more : List Event
   more = es ++ e ∷ []
@@ -84,9 +87,9 @@ module _ (p : Plant) (es : List Event) (e : Event) (i : ℕ) (c : Crossing) (k :
     longer-log : log p i more ≡ e ∷ h
     longer-log = log-snoc p i es e ∙ rw noted
 
-    settled : (add : ℕ) (d : Crossing) → Agree s (settle s add d) (e ∷ h) → Even s (settle s add d) (e ∷ h)
+    settled : (add : ℕ) (d : Crossing) → Agree (settle s add d) (next s e b) → Even (settle s add d) (next s e b) (e ∷ h)
         → (stands-after p i more ≡ true → Timed (λ n. Unbroken p i n more) s (d .phase) (d .timer)) → Holds p more i (settle s add d)
-    unfolding settle reason
+    unfolding settle reason state
     settled add d a v f = record {
       agree = rw longer-log a;
       timed = timed-settled (λ n. Unbroken p i n more) s (d .phase) (d .timer) (reason d) (booms-up (s .kind) (boom d))
@@ -96,7 +99,7 @@ module _ (p : Plant) (es : List Event) (e : Event) (i : ℕ) (c : Crossing) (k :
 
     pub ticked : e .code ≡ 0 → PhaseIn s (c .phase) (c .timer) → Holds p more i (settle s 1 (tick s c))
     unfolding tick count
-    ticked z t = settled 1 (tick s c) (tick-agree (k .agree) e z) (tick-even (k .agree) e z (k .even))
+    ticked z t = settled 1 (tick s c) (tick-agree s (k .agree) e z) (tick-even s (k .agree) e z h (k .even))
         (λ st. timed-tick s (c .phase) (c .timer) (λ n u. goes-on p i (suc n) es e u st one-more) (no-timer rests refl refl t) (k .timed))
       where
         one-more : {n : ℕ} → suc n ≤ n + count 0 (note (after p es) i e)
@@ -104,8 +107,8 @@ module _ (p : Plant) (es : List Event) (e : Event) (i : ℕ) (c : Crossing) (k :
 
     pub acted : {n : ℕ} → is 0 e ≡ false → s .tracks ≤ 4 → Accepted n s c e → Holds p more i (settle s 0 (act s c e))
     unfolding act place-limit
-    acted nt few a = settled 0 (act s c e) (own-agree (k .agree) e nt)
-        (own-even (k .agree) e nt (λ j on q. let b : e .place < s .tracks = rw (eqb-true (e .code) j q, on) at (a .place) in omega arith) (a .there) (k .even))
+    acted nt few a = settled 0 (act s c e) (own-agree s (k .agree) e nt)
+        (own-even s (k .agree) e nt (λ j on q. let b : e .place < s .tracks = rw (eqb-true (e .code) j q, on) at (a .place) in omega arith) (a .there) h (k .even))
         (λ st q. let u = k .timed q in (u .0, goes-on p i (u .0) es e (u .1) st (omega arith), u .2))
 
   -- a taken event, of any crossing
@@ -118,8 +121,8 @@ module _ (p : Plant) (es : List Event) (e : Event) (i : ℕ) (c : Crossing) (k :
         (λ o. acted (rw (t, z, o)) z few (a o))
         (λ o. skipped (rw (t, z, o))))
 
-    pub written-touched : written-off s (log p i more) ≡ written-at c e + written-off s h
-    unfolding note written-at
+    pub written-touched : known p i more .written ≡ b .written + written-at c e
+    unfolding note state written-at
     written-touched = by-test (is 0 e || eqb (e .crossing) i)
-        (λ o. rw (longer-log (rw (t, o))) (written-more (k .agree) e))
-        (λ o. rw (same-log (rw (t, o)), neither (is 0 e) (eqb (e .crossing) i) o .0, zero-add))
+        (λ o. rw (longer-log (rw (t, o))) (written-more s (k .agree) e))
+        (λ o. rw (same-log (rw (t, o)), neither (is 0 e) (eqb (e .crossing) i) o .0, add-zero))

@@ -18,14 +18,15 @@ use Rattle.machine.proofs.Taken.{step-site, taken-accepted}
 use Rattle.machine.proofs.Ranges.{plant-reads, entry-of}
 use Rattle.machine.proofs.Stays.{stays-in-range}
 use Rattle.demand.specs.Words.{sum-over}
-use Rattle.demand.specs.Ledger.{taken, note, log, written-off}
+use Rattle.demand.specs.Ledger.{taken, note, log, state}
+use Rattle.demand.specs.Demand.{known}
 use Rattle.demand.proofs.Lists.{snoc-induction, after-append, carried-append, log-snoc}
 use Rattle.demand.proofs.Each.{Holds, fresh-holds, skipped, touched, written-touched}
 use Rattle.demand.proofs.Answers.{zero-number, crossing-after, taken-written, refused-step}
 
 -- the trains written off by the ledgers of all crossings
 abbrev all-written : Plant → List Event → ℕ
-all-written p es = sum-below (p .site .n) (λ i. written-off (entry p i) (log p i es))
+all-written p es = sum-below (p .site .n) (λ i. known p i es .written)
 
 -- the claim's own sum is the machine's
 pub same-sum : (n : ℕ) (f : ℕ → ℕ) → sum-over n f ≡ sum-below n f
@@ -41,8 +42,8 @@ pub record Sound (p : Plant) (es : List Event) : Type 0 where
 
 module _ (p : Plant) where
   none : in-range p ≡ true → ((i : ℕ) → i < p .site .n → crossing p i ≡ fresh-crossing true) → Sound p []
-  unfolding after carried log written-off
-  none g fresh = record { site = refl; range = g; each = λ i l. rw (fresh i l) (fresh-holds p i); sum = sum-past (λ i. written-off (entry p i) (log p i [])) (p .site .n) 0 (omega arith) (λ i a b. refl) }
+  unfolding after carried log state
+  none g fresh = record { site = refl; range = g; each = λ i l. rw (fresh i l) (fresh-holds p i); sum = sum-past (λ i. known p i [] .written) (p .site .n) 0 (omega arith) (λ i a b. refl) }
 
   module _ (es : List Event) (e : Event) (k : Sound p es) where
     abbrev q : Plant
@@ -87,8 +88,8 @@ module _ (p : Plant) where
               let c = crossing-after q e t i (omega (arith, g .count)) in
               rw (now, c, same) (touched p es e i (crossing q i) (k .each i b) t
               (rw same at (g .used i l .phase)) (rw same at (entry-of g i l .tracks)) (λ o. rw same at (taken-accepted q e (zero-number q e t) i o)));
-          sum = sum-same (p .site .n) _ (λ i. written-at (crossing q i) e + written-off (entry p i) (log p i es)) (λ i b. written-touched p es e i (crossing q i) (k .each i b) t)
-              ∙ sum-add (p .site .n) (λ i. written-at (crossing q i) e) (λ i. written-off (entry p i) (log p i es))
+          sum = sum-same (p .site .n) _ (λ i. known p i es .written + written-at (crossing q i) e) (λ i b. written-touched p es e i (crossing q i) (k .each i b) t)
+              ∙ sum-add (p .site .n) (λ i. known p i es .written) (λ i. written-at (crossing q i) e)
               ∙ omega (arith, carries, taken-written q e t g, ap (λ m. sum-below m (λ i. written-at (crossing q i) e)) n, k .sum);
         }
 

@@ -15,12 +15,16 @@ use Rattle.machine.specs.Step.{step, after, carried}
 use Rattle.machine.specs.Panel.{panel}
 use Rattle.machine.specs.SiteBook.{read}
 use Rattle.demand.specs.Words.{bit, sum4, sum-over, all-up, all-closed}
-use Rattle.demand.specs.Ledger.{taken, log, ticks, strike-ins, passages, boom-report, lamp-whole, written-off, stands}
+use Rattle.demand.specs.Ledger.{taken, log, ticks, strike-ins, passages, State, stands, state}
 
 -- p is the plant before the list es, and i a crossing of it ------------------------------------------------------------------------
--- a reason stands at crossing i after the list
+-- what is known of crossing i after the list
+abbrev pub known : Plant → ℕ → List Event → State
+known p i es = state (entry p i) (log p i es)
+
+-- a reason stands there
 abbrev pub stands-after : Plant → ℕ → List Event → Bool
-stands-after p i es = stands (entry p i) (log p i es)
+stands-after p i es = stands (known p i es)
 
 -- unbroken for at least k ticks: some number of last events hold k taken ticks or more, and a reason stands before the first of them and after each
 pub record Unbroken (p : Plant) (i k : ℕ) (es : List Event) : Type 0 where
@@ -51,13 +55,13 @@ a-tick = record { code = 0; crossing = 0; place = 0; value = 0 }
 abbrev pub Account : Plant → List Event → ℕ → Type 0
 Account p es i =
     let h = log p i es in
-    strike-ins h ≡ passages h + written-off (entry p i) h + there (crossing (after p es) i)
+    strike-ins h ≡ passages h + known p i es .written + there (crossing (after p es) i)
 
 -- what a train may rely on: a reason unbroken for long enough, the last reports of the booms as the kind demands, and the road's red whole
 pub record Closed (p : Plant) (es : List Event) (i : ℕ) : Type 0 where
   pub unbroken : Unbroken p i (needed (entry p i)) es
-  pub booms : all-closed (entry p i .kind) (boom-report (log p i es)) ≡ true
-  pub red : lamp-whole (log p i es) 1 ≡ true
+  pub booms : all-closed (entry p i .kind) (known p i es .boom) ≡ true
+  pub red : known p i es .lamp 1 ≡ 1
 
 -- passage rule: passable (byte 6 is 2) or released (a bit of byte 8 is set) only then
 abbrev pub Passage : Plant → List Event → ℕ → Type 0
@@ -67,7 +71,7 @@ Passage p es i = (shown (after p es) i 6 ≡ 2) ⊎ (0 < shown (after p es) i 8)
 pub record Opens (p : Plant) (es : List Event) (i : ℕ) : Type 0 where
   pub right : shown (after p es) i 4 ≡ 0
   pub left : shown (after p es) i 5 ≡ 0
-  pub normal : all-up (entry p i .kind) (boom-report (log p i es)) ≡ true → shown (step (after p es) a-tick .plant) i 9 % 2 ≡ 1
+  pub normal : all-up (entry p i .kind) (known p i es .boom) ≡ true → shown (step (after p es) a-tick .plant) i 9 % 2 ≡ 1
 
 -- opening tick: that holds where no reason stands
 abbrev pub Opening : Plant → List Event → ℕ → Type 0
@@ -83,7 +87,7 @@ pub record Kept (p : Plant) (es : List Event) (i : ℕ) : Type 0 where
 -- at each crossing the three parts; over all crossings the trains written off add up to what the answers carry; and a further tick is taken
 pub record Demand-3 (p : Plant) (es : List Event) : Type 0 where
   pub each : (i : ℕ) → i < p .site .n → Kept p es i
-  pub sum : sum-over (p .site .n) (λ i. written-off (entry p i) (log p i es)) ≡ carried p es
+  pub sum : sum-over (p .site .n) (λ i. known p i es .written) ≡ carried p es
   pub tick : taken (after p es) a-tick ≡ true
 
 -- for every book read with number 0 and every list of events, each any four numbers

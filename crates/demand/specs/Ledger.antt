@@ -1,13 +1,13 @@
--- The ledger of a crossing: what the rules of document 01 make of the taken events, worked out from the list and not read from the plant.
+-- The ledger of a crossing: what the rules of document 01 make of its taken events, worked out from the list and not read from the plant.
 use mathlib.Core.Bool.{Bool, cond, not, _&&_, _||_}
 use mathlib.Core.List.{List, [], _∷_, _++_}
 use Prim.Native.Nat.{ℕ, _+_, pred}
-use lib.Dec.{eqb}
+use lib.Dec.{eqb, ltb}
 use Rattle.machine.specs.declared.Entry.{Entry}
 use Rattle.machine.specs.declared.Plant.{Plant}
 use Rattle.machine.specs.declared.Event.{Event}
 use Rattle.machine.specs.Step.{step}
-use Rattle.demand.specs.Words.{bit, sum4, is, is-to, is-at, depends, has-reason}
+use Rattle.demand.specs.Words.{bit, sum4, some-track, is, is-to, is-at, depends}
 
 -- The taken events ---------------------------------------------------------------------------------------------------------------
 -- taken: answered with number 0
@@ -27,8 +27,7 @@ unfoldable pub log : Plant → ℕ → List Event → List Event
 log p i [] = []
 log p i (e ∷ es) = log (step p e .plant) i es ++ note p i e
 
--- What a log h says --------------------------------------------------------------------------------------------------------------
--- the events of a code
+-- the events of a code in a log
 unfoldable pub count : ℕ → List Event → ℕ
 count code [] = 0
 count code (e ∷ h) = bit (is code e) 1 + count code h
@@ -45,46 +44,8 @@ strike-ins h = count 1 h
 abbrev pub passages : List Event → ℕ
 passages h = count 2 h
 
--- the value of the last event that meets a test; `none` before any
-unfoldable pub last : (Event → Bool) → ℕ → List Event → ℕ
-last test none [] = none
-last test none (e ∷ h) = cond (test e) (e .value) (last test none h)
-
--- last report of boom b: the last code 8; before any, up
-abbrev pub boom-report : List Event → ℕ → ℕ
-boom-report h b = last (is-at 8 b) 0 h
-
--- last report of lamp l: the last code 9; before any, whole
-abbrev pub lamp-whole : List Event → ℕ → Bool
-lamp-whole h l = eqb (last (is-at 9 l) 1 h) 1
-
--- kiosk hold: the last code 3; before any, off
-abbrev pub kiosk-on : List Event → Bool
-kiosk-on h = eqb (last (is 3) 0 h) 1
-
--- operator hold: the last code 4; before any, off
-abbrev pub operator-on : List Event → Bool
-operator-on h = eqb (last (is 4) 0 h) 1
-
--- route of track t: the last code 5; before any, not set
-abbrev pub route-set : ℕ → List Event → Bool
-route-set t h = eqb (last (is-at 5 t) 0 h) 1
-
--- release countdown: a tick lowers it, a time release sets it to 270, a strike-in, a hold on, a route set or an approach occupied to 0
-unfoldable pub countdown : List Event → ℕ
-countdown [] = 0
-countdown (e ∷ h) =
-    cond (is 0 e) (pred (countdown h))
-    (cond (is 7 e) 270
-    (cond (is 1 e || is-to 3 1 e || is-to 4 1 e || is-to 5 1 e || is-to 6 1 e) 0
-    (countdown h)))
-
--- the release completes: e, after h, is the tick on which a running countdown reaches 0
-abbrev pub completes : Event → List Event → Bool
-completes e h = is 0 e && eqb (countdown h) 1
-
--- Trains -------------------------------------------------------------------------------------------------------------------------
--- the trains calling and waiting on one track
+-- The trains of one track ----------------------------------------------------------------------------------------------------------
+-- calling and waiting
 pub record Queue : Type 0 where
   pub calling : ℕ
   pub waiting : ℕ
@@ -105,26 +66,67 @@ gone q = cond (eqb (q .calling) 0) (record { calling = 0; waiting = pred (q .wai
 unfoldable pub moved : Queue → Queue
 moved q = record { calling = q .calling + q .waiting; waiting = 0 }
 
--- track t by the rules: a completed release clears it; a strike-in calls on a plain track or with the route set
-unfoldable pub queue : Entry → ℕ → List Event → Queue
-queue s t [] = empty
-queue s t (e ∷ h) =
-    let q = queue s t h in
-    cond (completes e h) empty
-    (cond (is-at 1 t e) (joined (not (depends s t) || route-set t h) q)
-    (cond (is-at 2 t e) (gone q)
-    (cond (is-at 5 t e && eqb (e .value) 1) (moved q)
-    q)))
+-- What a crossing is known to hold -----------------------------------------------------------------------------------------------
+-- the queue of each track; the value of the last event that set a route, reported a boom or a lamp, or put a hold on or off; the release
+-- countdown; the trains written off
+pub record State : Type 0 where
+  pub queue : ℕ → Queue
+  pub route : ℕ → ℕ
+  pub boom : ℕ → ℕ
+  pub lamp : ℕ → ℕ
+  pub kiosk : ℕ
+  pub operator : ℕ
+  pub countdown : ℕ
+  pub written : ℕ
+
+-- before any event: no trains, routes or holds, every boom up, every lamp whole
+abbrev pub start : State
+start = record { queue = λ t. empty; route = λ t. 0; boom = λ b. 0; lamp = λ l. 1; kiosk = 0; operator = 0; countdown = 0; written = 0 }
 
 -- the trains of all tracks
-abbrev pub trains : Entry → List Event → ℕ
-trains s h = sum4 (λ t. queue s t h .calling + queue s t h .waiting)
-
--- trains written off: those that a completed release clears
-unfoldable pub written-off : Entry → List Event → ℕ
-written-off s [] = 0
-written-off s (e ∷ h) = bit (completes e h) (trains s h) + written-off s h
+abbrev pub trains : State → ℕ
+trains k = sum4 (λ t. k .queue t .calling + k .queue t .waiting)
 
 -- a reason stands: some track is calling or a hold is on
-unfoldable pub stands : Entry → List Event → Bool
-stands s h = has-reason (kiosk-on h) (operator-on h) (λ t. queue s t h .calling)
+unfoldable pub stands : State → Bool
+stands k = eqb (k .kiosk) 1 || eqb (k .operator) 1 || some-track (λ t. ltb 0 (k .queue t .calling))
+
+-- One more event -------------------------------------------------------------------------------------------------------------------
+-- a release completes: the tick on which a running countdown reaches 0
+abbrev pub completes : Event → State → Bool
+completes e k = is 0 e && eqb (k .countdown) 1
+
+-- a completed release clears a track; a strike-in calls on a plain track or with the route set
+unfoldable pub queue-next : Entry → Event → State → ℕ → Queue
+queue-next s e k t =
+    cond (completes e k) empty
+    (cond (is-at 1 t e) (joined (not (depends s t) || eqb (k .route t) 1) (k .queue t))
+    (cond (is-at 2 t e) (gone (k .queue t))
+    (cond (is-at 5 t e && eqb (e .value) 1) (moved (k .queue t))
+    (k .queue t))))
+
+-- a tick lowers the countdown, a time release sets it to 270; a strike-in, a hold on, a route set or an approach occupied make it 0
+unfoldable pub countdown-next : Event → ℕ → ℕ
+countdown-next e n =
+    cond (is 0 e) (pred n)
+    (cond (is 7 e) 270
+    (cond (is 1 e || is-to 3 1 e || is-to 4 1 e || is-to 5 1 e || is-to 6 1 e) 0
+    n))
+
+-- a hold, a route or a report is what the last event of its code says; the trains that a completed release clears are written off
+unfoldable pub next : Entry → Event → State → State
+next s e k = record {
+  queue = queue-next s e k;
+  route = λ t. cond (is-at 5 t e) (e .value) (k .route t);
+  boom = λ b. cond (is-at 8 b e) (e .value) (k .boom b);
+  lamp = λ l. cond (is-at 9 l e) (e .value) (k .lamp l);
+  kiosk = cond (is 3 e) (e .value) (k .kiosk);
+  operator = cond (is 4 e) (e .value) (k .operator);
+  countdown = countdown-next e (k .countdown);
+  written = k .written + bit (completes e k) (trains k);
+}
+
+-- over a log, event by event
+unfoldable pub state : Entry → List Event → State
+state s [] = start
+state s (e ∷ h) = next s e (state s h)

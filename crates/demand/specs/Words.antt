@@ -2,7 +2,7 @@
 -- so that a machine which has one of them wrong does not keep the claim.
 use mathlib.Core.Bool.{Bool, cond, not, _&&_, _||_}
 use Prim.Native.Nat.{ℕ, zero, suc, _+_, _/_, _%_, _^_}
-use lib.Dec.{eqb, ltb, leb}
+use lib.Dec.{eqb, leb}
 use Rattle.machine.specs.declared.Entry.{Entry}
 use Rattle.machine.specs.declared.Event.{Event}
 
@@ -36,7 +36,7 @@ is-to code value e = is code e && eqb (e .value) value
 abbrev pub is-at : ℕ → ℕ → Event → Bool
 is-at code place e = is code e && eqb (e .place) place
 
--- Settings -----------------------------------------------------------------------------------------------------------------------
+-- Settings and reports -----------------------------------------------------------------------------------------------------------
 -- Mask: bit t set where track t depends on a route
 unfoldable pub depends : Entry → ℕ → Bool
 depends s t = eqb ((s .mask / (2 ^ t)) % 2) 1
@@ -50,11 +50,6 @@ abbrev pub each-boom : ℕ → (ℕ → Bool) → Bool
 each-boom kind f =
     let lacks = leb (boom-count kind) in
     (lacks 0 || f 0) && (lacks 1 || f 1) && (lacks 2 || f 2) && (lacks 3 || f 3)
-
--- What holds of a crossing -------------------------------------------------------------------------------------------------------
--- a reason: some track is calling or a hold is on
-unfoldable pub has-reason : Bool → Bool → (ℕ → ℕ) → Bool
-has-reason kiosk operator calling = kiosk || operator || some-track (λ t. ltb 0 (calling t))
 
 -- every boom last reported up
 unfoldable pub all-up : ℕ → (ℕ → ℕ) → Bool
