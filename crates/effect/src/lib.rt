@@ -6,39 +6,7 @@ use machine::Event;
 ghost use mathlib.Core.Path.{_≡_};
 ghost use Rattle.machine.specs.Effects.{act};
 ghost use Rattle.machine.specs.Settling.{settle};
-ghost use Rattle.effect.specs.Room.{Room};
-
-// Strike-in: calling + 1 on a plain track or with the route set, otherwise waiting + 1.
-fn strike_in(s: Entry, c: Crossing, e: Event) -> Crossing
-    requires { ⌜ (e .code ≡ 1) × Room c e ⌝ }
-    ensures { λ r. ⌜ r ≡ act s c e ⌝ }
-{
-    let t = e.place as usize;
-    let mut d = c;
-    d.countdown = 0;
-    if !kind::dependent(s, t) | (c.route[t] == 1) {
-        d.calling[t] = c.calling[t] + 1;
-        return d;
-    }
-    d.waiting[t] = c.waiting[t] + 1;
-    d
-}
-
-// Passage: calling - 1, or waiting - 1 where calling is 0.
-fn passage(s: Entry, c: Crossing, e: Event) -> Crossing
-    requires { ⌜ (e .code ≡ 2) × Room c e ⌝ }
-    ensures { λ r. ⌜ r ≡ act s c e ⌝ }
-{
-    let t = e.place as usize;
-    let mut d = c;
-    let calling = c.calling[t];
-    if calling == 0 {
-        d.waiting[t] = c.waiting[t] - 1;
-        return d;
-    }
-    d.calling[t] = calling - 1;
-    d
-}
+ghost use Rattle.train.specs.Room.{Room};
 
 // Kiosk hold. A hold on cancels the countdown, a repeat included.
 fn kiosk_hold(s: Entry, c: Crossing, e: Event) -> Crossing
@@ -64,24 +32,6 @@ fn operator_hold(s: Entry, c: Crossing, e: Event) -> Crossing
     let mut d = c;
     d.operator = operator;
     if operator == 1 {
-        d.countdown = 0;
-        return d;
-    }
-    d
-}
-
-// Route: setting moves all waiting to calling and cancels the countdown; cancelling moves none.
-fn route(s: Entry, c: Crossing, e: Event) -> Crossing
-    requires { ⌜ (e .code ≡ 5) × Room c e ⌝ }
-    ensures { λ r. ⌜ r ≡ act s c e ⌝ }
-{
-    let t = e.place as usize;
-    let set = e.value;
-    let mut d = c;
-    d.route[t] = set;
-    if set == 1 {
-        d.calling[t] = c.calling[t] + c.waiting[t];
-        d.waiting[t] = 0;
         d.countdown = 0;
         return d;
     }
@@ -143,11 +93,11 @@ fn act(s: Entry, c: Crossing, e: Event) -> Crossing
 {
     let code = e.code;
     match code {
-        1 => strike_in(s, c, e),
-        2 => passage(s, c, e),
+        1 => train::strike_in(s, c, e),
+        2 => train::passage(s, c, e),
         3 => kiosk_hold(s, c, e),
         4 => operator_hold(s, c, e),
-        5 => route(s, c, e),
+        5 => train::route(s, c, e),
         6 => approach(s, c, e),
         7 => time_release(s, c, e),
         8 => boom_report(s, c, e),

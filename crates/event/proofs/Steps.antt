@@ -22,9 +22,9 @@ use Rattle.machine.proofs.Tools.{by-test, by-cond, tab-set}
 use Rattle.machine.proofs.Ranges.{plant-reads, entry-of}
 use Rattle.machine.proofs.Taken.{taken-answer, taken-tests, taken-crossing}
 use Rattle.plant.proofs.Laws.{unread, crossing-read}
-use Rattle.effect.specs.Room.{Room}
-use Rattle.effect.proofs.Taken.{taken-room}
-use Rattle.tick.specs.Ticks.{ticked-plant}
+use Rattle.train.specs.Room.{Room}
+use Rattle.train.proofs.Taken.{taken-room}
+use Rattle.plant_tick.specs.Ticks.{ticked-plant}
 
 -- a crossing that the plant lacks is refused before anything is read there
 unknown-at : (n : ℕ) (s z : Entry) (c d : Crossing) (e : Event) → leb (crossing-limit n (e .code)) (e .crossing) ≡ true → refusal n s c e ≡ refusal n z d e

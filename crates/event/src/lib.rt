@@ -26,7 +26,7 @@ fn take_tick(p: Plant, e: Event) -> Answer
 {
     let site = p.site;
     let crossings = p.crossings;
-    let t = tick::tick_all(site, p.beat, crossings);
+    let t = plant_tick::tick_all(site, p.beat, crossings);
     let after = t.crossings;
     Answer {
         number: 0,

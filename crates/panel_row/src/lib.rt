@@ -31,27 +31,27 @@ pub fn row(beat: u8, s: Entry, c: Crossing) -> [u8; 16]
     let calling = panel_bytes::sum(c.calling);
     let waiting = panel_bytes::sum(c.waiting);
     let has_booms = 2 <= s.kind;
-    let road = panel_bytes::road(normal, c.lamps[0] == 1, c.lamps[1] == 1);
-    let signal = panel_bytes::signal(secured, c.lamps[3] == 1, c.lamps[2] == 1);
-    let on = panel_bytes::rhythm(beat, c.lamps[4] == 1, normal);
+    let road = aspect::road(normal, c.lamps[0] == 1, c.lamps[1] == 1);
+    let signal = aspect::signal(secured, c.lamps[3] == 1, c.lamps[2] == 1);
+    let on = aspect::rhythm(beat, c.lamps[4] == 1, normal);
     [
         road,
-        panel_bytes::flags(
+        bits::flags(
             (0 < road) & on,
             !normal & has_booms & on,
             (0 < signal) & on,
             on,
         ),
-        panel_bytes::bit(!normal & !(has_booms & kind::booms::down(s.kind, booms))),
-        panel_bytes::bit(!normal & has_booms),
-        panel_bytes::bit(has_booms & ((c.phase == 2) | (c.phase == 3))),
-        panel_bytes::bit((s.kind == 4) & (c.phase == 3)),
+        bits::bit(!normal & !(has_booms & kind::booms::down(s.kind, booms))),
+        bits::bit(!normal & has_booms),
+        bits::bit(has_booms & ((c.phase == 2) | (c.phase == 3))),
+        bits::bit((s.kind == 4) & (c.phase == 3)),
         signal,
-        panel_bytes::distant(signal),
+        aspect::distant(signal),
         panel_bytes::released(s, c.route, secured),
-        panel_bytes::flags(normal, secured, Crossing::OVERDUE < c.out, false),
+        bits::flags(normal, secured, Crossing::OVERDUE < c.out, false),
         c.phase,
-        panel_bytes::flags(c.kiosk == 1, c.operator == 1, false, false),
+        bits::flags(c.kiosk == 1, c.operator == 1, false, false),
         word::low(calling),
         word::high(calling),
         word::low(waiting),

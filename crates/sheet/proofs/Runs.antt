@@ -21,8 +21,8 @@ use Rattle.machine.specs.Settling.{settle}
 use Rattle.machine.proofs.Taken.{refused-answer}
 use Rattle.machine.proofs.Stays.{stays-in-range}
 use Rattle.plant.proofs.Laws.{unread, crossing-read}
-use Rattle.effect.specs.Room.{Room}
-use Rattle.tick.specs.Ticks.{ticked-plant}
+use Rattle.train.specs.Room.{Room}
+use Rattle.plant_tick.specs.Ticks.{ticked-plant}
 use Rattle.verdict.specs.declared.Verdict.{Verdict}
 use Rattle.verdict.specs.declared.Verdict.the-variants.{Take, Refuse}
 use Rattle.verdict.specs.Cases.{verdict}

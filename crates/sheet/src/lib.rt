@@ -73,7 +73,7 @@ fn play(p: Plant, sheet: &[u8], m: usize) -> Run
         };
         taken += 1;
         if t.code == 0 {
-            let all = tick::tick_all(site, beat, crossings);
+            let all = plant_tick::tick_all(site, beat, crossings);
             let next = all.crossings;
             crossings = next;
             beat = all.beat;

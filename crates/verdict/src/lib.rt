@@ -55,21 +55,13 @@ fn value_limit(code: u8) -> u8
     }
 }
 
-// A byte as a wider number.
-fn wide(x: u8) -> u16
-    ensures { λ r. ⌜ r ≡ x ⌝ }
-    ensures { λ r. ⌜ r ≤ 255 ⌝ }
-{
-    x as u16
-}
-
 // The trains of the track at a place; none at a place that is no track.
 fn trains_at(c: Crossing, place: u8) -> u16
     ensures { λ r. ⌜ r ≡ trains c place ⌝ }
 {
     let t = place as usize;
     if t < 4 {
-        return wide(c.calling[t]) + wide(c.waiting[t]);
+        return word::wide(c.calling[t]) + word::wide(c.waiting[t]);
     }
     0
 }
@@ -112,7 +104,7 @@ fn judge_state(s: Entry, c: Crossing, e: Event) -> Verdict
     let code = e.code;
     match code {
         1 => refuse_if(
-            wide(Crossing::FULL) <= trains_at(c, e.place),
+            word::wide(Crossing::FULL) <= trains_at(c, e.place),
             numbers::TRACK_FULL,
             e,
         ),

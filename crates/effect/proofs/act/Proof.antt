@@ -1,4 +1,4 @@
-use Rattle.effect.proofs.Stores.{act-stores}
+use Rattle.train.proofs.Stores.{act-stores}
 use Rattle.machine.specs.Effects.{cancels}
 use borrow.Author.Tests.{ne-eqb}
 use borrow.Author.Needs.{needs}

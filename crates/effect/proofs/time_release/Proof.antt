@@ -1,4 +1,4 @@
-use Rattle.effect.proofs.Stores.{act-stores}
+use Rattle.train.proofs.Stores.{act-stores}
 use Rattle.machine.specs.Effects.{cancels}
 use Rattle.effect.proofs.time_release.Statement.{statement}
 use Rattle.effect.proofs.time_release.Tie as tie

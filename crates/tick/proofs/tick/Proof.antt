@@ -1,7 +1,7 @@
 use lib.Dec.{eqb}
 use borrow.Author.Tests.{eqb-true}
 use Rattle.machine.proofs.Tools.{and-both}
-use Rattle.tick.proofs.Past.{Tracks, still-ticks}
+use Rattle.tick.proofs.Still.{Tracks, still-ticks}
 use borrow.Author.Needs.{needs}
 use Rattle.tick.proofs.tick.Statement.{statement}
 use Rattle.tick.proofs.tick.Tie as tie

@@ -1,0 +1,37 @@
+-- A tick of a crossing where nothing runs leaves it to settle as it is.
+use mathlib.Core.Path.{_≡_}
+use Prim.Native.Nat.{ℕ}
+use lib.ListN.{length}
+use Rattle.machine.specs.declared.Entry.{Entry}
+use Rattle.machine.specs.declared.Crossing.{Crossing}
+use Rattle.machine.specs.Effects.{tick, phase-ticked, timer-ticked}
+use Rattle.machine.proofs.Tools.{tab-getD}
+
+-- a crossing of the code has its lists by track at length four
+pub record Tracks (c : Crossing) : Type 0 where
+  pub calling : length (c .calling) ≡ 4
+  pub waiting : length (c .waiting) ≡ 4
+
+abbrev counted : Crossing → ℕ → ℕ → Crossing
+counted c countdown timer = record {
+  calling = c .calling;
+  waiting = c .waiting;
+  route = c .route;
+  occupied = c .occupied;
+  booms = c .booms;
+  lamps = c .lamps;
+  kiosk = c .kiosk;
+  operator = c .operator;
+  countdown = countdown;
+  phase = c .phase;
+  timer = timer;
+  out = c .out;
+}
+
+same-counts : (c : Crossing) {countdown timer : ℕ} → c .countdown ≡ countdown → c .timer ≡ timer → counted c countdown timer ≡ c
+same-counts c d t = rw (← d, ← t)
+
+-- where neither the countdown nor the timer runs, a tick leaves the crossing to settle as it is
+pub still-ticks : (s : Entry) (c : Crossing) → c .countdown ≡ 0 → c .timer ≡ 0 → Tracks c → tick s c ≡ c
+unfolding tick phase-ticked timer-ticked
+still-ticks s c d t z = simp (d, t, tab-getD 4 (c .calling) 0 (z .calling), tab-getD 4 (c .waiting) 0 (z .waiting)) (same-counts c d t)

@@ -1,0 +1,53 @@
+-- A crossing in range has room for an event that is taken there.
+use mathlib.Core.Path.{_≡_}
+use mathlib.Core.Bool.{false, cond}
+use Prim.Native.Nat.{ℕ, _≤_, _<_}
+use native.Mathlib.Omega.{arith}
+use native.Mathlib.Nat.{le-refl}
+use lib.Dec.{eqb, leb, lit≤}
+use borrow.Author.Tests.{eqb-true}
+use Rattle.machine.specs.declared.Entry.{Entry}
+use Rattle.machine.specs.declared.Crossing.{Crossing}
+use Rattle.machine.specs.declared.Event.{Event}
+use Rattle.machine.specs.Plant.{full, trains, boom-count}
+use Rattle.machine.specs.Events.{is, on-track, place-limit, refusal}
+use Rattle.machine.proofs.Tools.{by-test, by-cond}
+use Rattle.machine.proofs.Entries.{EntryIn}
+use Rattle.machine.proofs.Ranges.{CrossingIn}
+use Rattle.machine.proofs.Taken.{accepted}
+use Rattle.train.specs.Room.{Room}
+
+-- the place of an event of code k, no lamp report
+pub on-four : {c : Crossing} {e : Event} (k : ℕ) → eqb k 9 ≡ false → (e .code ≡ k) × Room c e → e .place < 4
+on-four k q h = rw (h .0, q) at (h .1 .place)
+
+-- a crossing has at most four tracks and booms
+limit-fits : (s : Entry) (code : ℕ) → s .tracks ≤ 4 → place-limit s code ≤ cond (eqb code 9) 5 4
+unfolding place-limit
+limit-fits s code four = by-test (eqb code 9)
+    (λ q. rw (eqb-true code 9 q) (le-refl 5))
+    (λ q. rw q
+    (by-cond (λ x. x ≤ 4) (on-track code) (λ _. four) (λ _.
+    by-cond (λ x. x ≤ 4) (eqb code 8) (λ _. booms (s .kind)) (λ _. lit≤ tt))))
+  where
+    booms : (kind : ℕ) → boom-count kind ≤ 4
+    booms kind = by-cond (λ x. x ≤ 4) (leb kind 1) (λ _. lit≤ tt) (λ _. by-cond (λ x. x ≤ 4) (eqb kind 4) (λ _. lit≤ tt) (λ _. lit≤ tt))
+
+pub taken-room : (n : ℕ) (s : Entry) (c : Crossing) (e : Event) → EntryIn s → CrossingIn s c → refusal n s c e ≡ 0 → Room c e
+unfolding place-limit
+taken-room n s c e g h q =
+    let a = accepted n s c e q in
+    let four = g .tracks in
+    let l = limit-fits s (e .code) four in
+    let p = a .place in
+    record {
+      place = omega (arith, p, l);
+      most = by-cond (λ x. x ≤ full) (on-track (e .code))
+          (λ o. let t : e .place < s .tracks = rw o at p in
+          let f = h .track (e .place) (omega arith) .few in
+          by-test (is 1 e)
+          (λ i. let r = a .room i in rw i (omega arith))
+          (λ i. rw i (omega arith)))
+          (λ _. lit≤ tt);
+      least = by-cond (λ x. x ≤ trains c (e .place)) (is 2 e) (λ i. let r = a .there i in omega arith) (λ _. omega arith);
+    }
