@@ -28,9 +28,9 @@ one-hot false place f = refl
 abbrev pub Even : Crossing → State → List Event → Type 0
 Even c k h = count 1 h ≡ count 2 h + k .written + total c
 
-module _ (s : Entry) {c : Crossing} {k : State} (a : Agree c k) (e : Event) where
+module _ (s : Entry) (i : ℕ) {c : Crossing} {k : State} (a : Agree c k) (e : Event) where
   -- what the ledger writes off for an event is what the machine does
-  pub written-more : next s e k .written ≡ k .written + written-at c e
+  pub written-more : next s e k .written ≡ k .written + written-at s i c e
   unfolding next written-at
   written-more = rw (same, ← a .countdown)
     where
@@ -55,7 +55,7 @@ module _ (s : Entry) {c : Crossing} {k : State} (a : Agree c k) (e : Event) wher
 
   -- a tick
   module _ (z : e .code ≡ 0) where
-    tick-total : total (tick s c) + written-at c e ≡ total c
+    tick-total : total (tick s c) + written-at s i c e ≡ total c
     unfolding tick written-at
     tick-total = rw z (both (releases c))
       where

@@ -32,10 +32,10 @@ module _ (q : Plant) (e : Event) where
     crossing-after i b = ap (λ a. crossing (a .plant) i) (taken-answer q e zero-number) ∙ getD-tab 8 (λ j. touch (entry q j) j (crossing q j) e) no-crossing i b
 
     -- the records past the last crossing hold no train
-    pub taken-written : PlantIn q → step q e .written ≡ sum-below (q .site .n) (λ i. written-at (crossing q i) e)
+    pub taken-written : PlantIn q → step q e .written ≡ sum-below (q .site .n) (λ i. written-at (entry q i) i (crossing q i) e)
     unfolding written written-at
     taken-written g = ap (λ a. a .written) (taken-answer q e zero-number)
-        ∙ sum-past (λ i. written-at (crossing q i) e) 8 (q .site .n) (g .count) (λ i a b. rw (g .past i b a .countdown, and-false))
+        ∙ sum-past (λ i. written-at (entry q i) i (crossing q i) e) 8 (q .site .n) (g .count) (λ i a b. rw (g .past i b a .countdown, and-false))
 
   pub refused-step : taken q e ≡ false → step q e ≡ record { number = number q e; written = 0; plant = q }
   refused-step f = refused-answer q e (eqb-false _ _ (sym taken-number ∙ f))

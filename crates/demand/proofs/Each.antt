@@ -99,7 +99,7 @@ module _ (p : Plant) (es : List Event) (e : Event) (i : ℕ) (c : Crossing) (k :
 
     pub ticked : e .code ≡ 0 → PhaseIn s (c .phase) (c .timer) → Holds p more i (settle s 1 (tick s c))
     unfolding tick count
-    ticked z t = settled 1 (tick s c) (tick-agree s (k .agree) e z) (tick-even s (k .agree) e z h (k .even))
+    ticked z t = settled 1 (tick s c) (tick-agree s (k .agree) e z) (tick-even s i (k .agree) e z h (k .even))
         (λ st. timed-tick s (c .phase) (c .timer) (λ n u. goes-on p i (suc n) es e u st one-more) (no-timer rests refl refl t) (k .timed))
       where
         one-more : {n : ℕ} → suc n ≤ n + count 0 (note (after p es) i e)
@@ -108,7 +108,7 @@ module _ (p : Plant) (es : List Event) (e : Event) (i : ℕ) (c : Crossing) (k :
     pub acted : {n : ℕ} → is 0 e ≡ false → s .tracks ≤ 4 → Accepted n s c e → Holds p more i (settle s 0 (act s c e))
     unfolding act place-limit
     acted nt few a = settled 0 (act s c e) (own-agree s (k .agree) e nt)
-        (own-even s (k .agree) e nt (λ j on q. let b : e .place < s .tracks = rw (eqb-true (e .code) j q, on) at (a .place) in omega arith) (a .there) h (k .even))
+        (own-even s i (k .agree) e nt (λ j on q. let b : e .place < s .tracks = rw (eqb-true (e .code) j q, on) at (a .place) in omega arith) (a .there) h (k .even))
         (λ st q. let u = k .timed q in (u .0, goes-on p i (u .0) es e (u .1) st (omega arith), u .2))
 
   -- a taken event, of any crossing
@@ -121,8 +121,8 @@ module _ (p : Plant) (es : List Event) (e : Event) (i : ℕ) (c : Crossing) (k :
         (λ o. acted (rw (t, z, o)) z few (a o))
         (λ o. skipped (rw (t, z, o))))
 
-    pub written-touched : known p i more .written ≡ b .written + written-at c e
+    pub written-touched : known p i more .written ≡ b .written + written-at s i c e
     unfolding note state written-at
     written-touched = by-test (is 0 e || eqb (e .crossing) i)
-        (λ o. rw (longer-log (rw (t, o))) (written-more s (k .agree) e))
+        (λ o. rw (longer-log (rw (t, o))) (written-more s i (k .agree) e))
         (λ o. rw (same-log (rw (t, o)), neither (is 0 e) (eqb (e .crossing) i) o .0, add-zero))

@@ -88,9 +88,9 @@ module _ (p : Plant) where
               let c = crossing-after q e t i (omega (arith, g .count)) in
               rw (now, c, same) (touched p es e i (crossing q i) (k .each i b) t
               (rw same at (g .used i l .phase)) (rw same at (entry-of g i l .tracks)) (λ o. rw same at (taken-accepted q e (zero-number q e t) i o)));
-          sum = sum-same (p .site .n) _ (λ i. known p i es .written + written-at (crossing q i) e) (λ i b. written-touched p es e i (crossing q i) (k .each i b) t)
-              ∙ sum-add (p .site .n) (λ i. known p i es .written) (λ i. written-at (crossing q i) e)
-              ∙ omega (arith, carries, taken-written q e t g, ap (λ m. sum-below m (λ i. written-at (crossing q i) e)) n, k .sum);
+          sum = sum-same (p .site .n) _ (λ i. known p i es .written + written-at (entry p i) i (crossing q i) e) (λ i b. written-touched p es e i (crossing q i) (k .each i b) t)
+              ∙ sum-add (p .site .n) (λ i. known p i es .written) (λ i. written-at (entry p i) i (crossing q i) e)
+              ∙ omega (arith, carries, taken-written q e t g, ap (λ x. sum-below (x .n) (λ i. written-at (getD (x .entries) i no-entry) i (crossing q i) e)) (k .site), k .sum);
         }
 
   pub sound : in-range p ≡ true → ((i : ℕ) → i < p .site .n → crossing p i ≡ fresh-crossing true) → (es : List Event) → Sound p es

@@ -82,6 +82,6 @@ tick s c = record {
   out = c .out;
 }
 
--- the trains that an event writes off at a crossing
-unfoldable pub written-at : Crossing → Event → ℕ
-written-at c e = bit (is 0 e && releases c) (total c)
+-- the trains that an event writes off at crossing i, whose settings are s
+unfoldable pub written-at : Entry → ℕ → Crossing → Event → ℕ
+written-at s i c e = bit (is 0 e && releases c) (total c)

@@ -27,7 +27,7 @@ apply p e = record {
 
 -- the trains written off, summed over the plant; every answer but that of a tick carries 0
 unfoldable pub written : Plant → Event → ℕ
-written p e = sum-below 8 (λ i. written-at (crossing p i) e)
+written p e = sum-below 8 (λ i. written-at (entry p i) i (crossing p i) e)
 
 -- taken: number 0. Refused: the number, the plant it was given and a zero count
 unfoldable pub step : Plant → Event → Answer
