@@ -7,6 +7,7 @@ use lib.Dec.{eqb}
 use borrow.Author.Tests.{eqb-true, eq-eqb}
 use Rattle.machine.specs.Common.{bit}
 use Rattle.machine.specs.declared.Entry.{Entry}
+use Rattle.machine.specs.Plant.{lights-only}
 use Rattle.machine.specs.Effects.{to-gap, phase-ticked, timer-ticked}
 use Rattle.machine.specs.Settling.{phase-settled, timer-settled}
 use Rattle.machine.proofs.Tools.{by-test, by-cond, neither, or-left-false}
@@ -60,7 +61,7 @@ module _ (kind phase : ℕ) (up : Bool) where
       by-cond (λ x. rests x ≡ true) (eqb phase 0 || eqb phase 1) (λ _. refl) (λ _.
       by-cond (λ x. rests x ≡ true) (eqb phase 4)
       (λ _. by-cond (λ x. rests x ≡ true) up (λ _. refl) (λ _. refl))
-      (λ _. by-cond (λ x. rests x ≡ true) (eqb kind 1) (λ _. refl) (λ _. refl)))
+      (λ _. by-cond (λ x. rests x ≡ true) (lights-only kind) (λ _. refl) (λ _. refl)))
 
   -- where one stands a crossing that does not rest stays as it is
   stands-keeps : rests phase ≡ false → phase-settled kind true up phase ≡ phase

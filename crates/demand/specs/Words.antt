@@ -43,7 +43,7 @@ depends s t = eqb ((s .mask / (2 ^ t)) % 2) 1
 
 -- Booms 0 and 1 stand right of the road (none for kind 1); 2 and 3 left, kind 4 alone
 abbrev pub boom-count : ℕ → ℕ
-boom-count kind = cond (leb kind 1) 0 (cond (eqb kind 4) 4 2)
+boom-count kind = cond (eqb kind 1) 0 (cond (eqb kind 4) 4 2)
 
 -- the test holds of each boom that a kind has
 abbrev pub each-boom : ℕ → (ℕ → Bool) → Bool

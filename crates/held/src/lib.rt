@@ -63,7 +63,8 @@ fn phase_in(s: Entry, phase: u8, timer: u16) -> bool
     match phase {
         1 => (1 <= timer) & (timer <= s.pre),
         2 => (s.kind == 4) & ((1 <= timer) & (timer <= s.gap)),
-        _ => (timer == 0) & ((phase == 0) | (phase == 3) | ((phase == 4) & (2 <= s.kind))),
+        _ => (timer == 0)
+            & ((phase == 0) | (phase == 3) | ((phase == 4) & !kind::lights_only(s.kind))),
     }
 }
 

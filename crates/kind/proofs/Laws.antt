@@ -7,7 +7,7 @@ use native.Mathlib.Omega.{arith}
 use lib.Dec.{eqb, leb}
 use lib.Pow.{pow-mono}
 use Rattle.machine.specs.Common.{all-below}
-use Rattle.machine.specs.Plant.{each-boom}
+use Rattle.machine.specs.Plant.{lights-only, each-boom}
 use Rattle.kind.specs.Sides.{on-sides}
 
 -- a byte has no bit at or above 8
@@ -22,4 +22,4 @@ by-side false false f = simp and-true
 -- a test of each boom that a kind has is the test of its sides
 pub sides : (kind : ℕ) (f : ℕ → Bool) → on-sides kind (f 0 && f 1) (f 2 && f 3) ≡ each-boom kind f
 unfolding on-sides
-sides kind f = by-side (leb kind 1) (eqb kind 4) f
+sides kind f = by-side (lights-only kind) (eqb kind 4) f

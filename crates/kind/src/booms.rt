@@ -8,7 +8,7 @@ ghost use Rattle.kind.specs.Sides.{on-sides};
 fn each(kind: u8, right: bool, left: bool) -> bool
     ensures { λ r. ⌜ r ≡ on-sides kind right left ⌝ }
 {
-    if kind <= 1 {
+    if super::lights_only(kind) {
         return true;
     }
     if kind == 4 {

@@ -9,7 +9,6 @@ use Rattle.machine.specs.Range.{gap-in, entry-in, entry-zero, count-in}
 use Rattle.machine.proofs.Tools.{and-both}
 
 pub record EntryIn (s : Entry) : Type 0 where
-  pub some-kind : 1 ≤ s .kind
   pub tracks : s .tracks ≤ 4
   pub some-pre : 1 ≤ s .pre
   pub pre : s .pre ≤ 180
@@ -21,10 +20,9 @@ entry-reads s q =
     let g = and-both _ (gap-in (s .kind) (s .gap)) q in
     let f = and-both _ (leb 1 (s .pre) && leb (s .pre) 180) (g .0) in
     let m = and-both _ (ltb (s .mask) (2 ^ s .tracks)) (f .0) in
-    let t = and-both _ (leb 1 (s .tracks) && leb (s .tracks) 4) (m .0) in
+    let t = and-both (leb 1 (s .kind) && leb (s .kind) 4) (leb 1 (s .tracks) && leb (s .tracks) 4) (m .0) in
     let f2 = and-both (leb 1 (s .pre)) _ (f .1) in
     record {
-      some-kind = leb-true _ _ (and-both (leb 1 (s .kind)) _ (t .0) .0);
       tracks = leb-true _ _ (and-both (leb 1 (s .tracks)) _ (t .1) .1);
       some-pre = leb-true _ _ (f2 .0);
       pre = leb-true _ _ (f2 .1);

@@ -6,7 +6,7 @@ use native.Mathlib.Omega.{arith}
 use lib.Dec.{eqb}
 use borrow.Author.Tests.{eqb-false}
 use Rattle.machine.specs.Common.{bit}
-use Rattle.machine.specs.Plant.{Entry}
+use Rattle.machine.specs.Plant.{Entry, lights-only}
 use Rattle.machine.specs.Effects.{to-gap, phase-ticked, timer-ticked}
 use Rattle.machine.specs.Settling.{phase-settled, timer-settled}
 use Rattle.machine.proofs.Tools.{by-test, by-cond, and-both}
@@ -50,12 +50,12 @@ module _ (s : Entry) (g : EntryIn s) where
   restarts false from timer a b = rw a (opened refl refl)
 
   -- 2 or 3: it stays while a reason stands
-  lowers : (stands : Bool) {from timer : ℕ} → eqb 0 from ≡ false → eqb 4 from ≡ false → eqb from from ≡ true → PhaseIn s from timer → Next from timer (cond stands from (cond (eqb (s .kind) 1) 0 4))
+  lowers : (stands : Bool) {from timer : ℕ} → eqb 0 from ≡ false → eqb 4 from ≡ false → eqb from from ≡ true → PhaseIn s from timer → Next from timer (cond stands from (cond (lights-only (s .kind)) 0 4))
   unfolding timer-settled
   lowers true a b e h = rw e h
-  lowers false {from} {timer} a b e h = by-cond (Next from timer) (eqb (s .kind) 1)
+  lowers false {from} {timer} a b e h = by-cond (Next from timer) (lights-only (s .kind))
       (λ _. rw a (opened refl refl))
-      (λ q. let d : s .kind ≡ 1 → ⊥ = eqb-false _ _ q in let k = g .some-kind in rw b (raising refl refl (omega arith)))
+      (λ q. rw b (raising refl refl q))
 
   pub phase-settles : (stands up : Bool) {phase timer : ℕ} → PhaseIn s phase timer → Next phase timer (phase-settled (s .kind) stands up phase)
   unfolding phase-settled timer-settled

@@ -1,12 +1,12 @@
 -- What the range tests say, as facts: a test that holds gives its record, and the record gives the test.
-use mathlib.Core.Path.{_≡_}
-use mathlib.Core.Bool.{Bool, true, false, _&&_, _||_}
+use mathlib.Core.Path.{_≡_, ap}
+use mathlib.Core.Bool.{Bool, true, false, not, _&&_, _||_}
 use Prim.Native.Nat.{ℕ, suc, _+_, _≤_, _<_}
 use native.Mathlib.Omega.{arith}
 use lib.Dec.{eqb, ltb, leb}
-use borrow.Author.Tests.{eqb-true, leb-true, ltb-true, ltb-false, eq-eqb, le-leb, lt-ltb, le-ltb}
+use borrow.Author.Tests.{eqb-true, leb-true, ltb-true, ltb-false, not-true, eq-eqb, le-leb, lt-ltb, le-ltb}
 use Rattle.machine.specs.Common.{all-below}
-use Rattle.machine.specs.Plant.{Entry, Crossing, Plant, release-ticks, overdue-ticks, full, calling, waiting, route-flag, occupied-flag, boom, lamp-flag, trains, entry, crossing, dependent}
+use Rattle.machine.specs.Plant.{Entry, Crossing, Plant, release-ticks, overdue-ticks, full, calling, waiting, route-flag, occupied-flag, boom, lamp-flag, trains, entry, crossing, dependent, lights-only}
 use Rattle.machine.specs.Range.{entry-in, entry-zero, flag-in, track-zero, track-in, boom-in, phase-in, crossing-in, crossing-zero, place-in, count-in, in-range}
 use Rattle.machine.proofs.Tools.{by-test, by-cond, and-both, and-intro, or-right, or-left-false, all-below-intro, all-below-at}
 use Rattle.machine.proofs.Entries.{EntryIn, entry-reads}
@@ -71,7 +71,7 @@ pub data PhaseIn (s : Entry) (phase timer : ℕ) : Type 0 where
   warning : phase ≡ 1 → 1 ≤ timer → timer ≤ s .pre → PhaseIn s phase timer
   right : phase ≡ 2 → eqb (s .kind) 4 ≡ true → 1 ≤ timer → timer ≤ s .gap → PhaseIn s phase timer
   closed : phase ≡ 3 → timer ≡ 0 → PhaseIn s phase timer
-  raising : phase ≡ 4 → timer ≡ 0 → 2 ≤ s .kind → PhaseIn s phase timer
+  raising : phase ≡ 4 → timer ≡ 0 → lights-only (s .kind) ≡ false → PhaseIn s phase timer
 
 module _ (s : Entry) (phase timer : ℕ) where
   pub phase-tests : PhaseIn s phase timer → phase-in s phase timer ≡ true
@@ -80,12 +80,12 @@ module _ (s : Entry) (phase timer : ℕ) where
   phase-tests (warning p l h) = rw p (and-intro (le-leb _ _ l) (le-leb _ _ h))
   phase-tests (right p q l h) = rw p (and-intro q (and-intro (le-leb _ _ l) (le-leb _ _ h)))
   phase-tests (closed p z) = rw (p, z)
-  phase-tests (raising p z h) = rw (p, z) (le-leb _ _ h)
+  phase-tests (raising p z h) = rw (p, z) (ap not h)
 
-  rest : (timer ≡ 0) → (eqb phase 0 || eqb phase 3 || (eqb phase 4 && leb 2 (s .kind))) ≡ true → PhaseIn s phase timer
+  rest : (timer ≡ 0) → (eqb phase 0 || eqb phase 3 || (eqb phase 4 && not (lights-only (s .kind)))) ≡ true → PhaseIn s phase timer
   rest z q = by-test (eqb phase 0) (λ a. opened (eqb-true _ _ a) z) (λ a.
       by-test (eqb phase 3) (λ b. closed (eqb-true _ _ b) z) (λ b.
-      let d = and-both (eqb phase 4) (leb 2 (s .kind)) (rw (a, b) at q) in raising (eqb-true _ _ (d .0)) z (leb-true _ _ (d .1))))
+      let d = and-both (eqb phase 4) (not (lights-only (s .kind))) (rw (a, b) at q) in raising (eqb-true _ _ (d .0)) z (not-true _ (d .1))))
 
   pub phase-reads : phase-in s phase timer ≡ true → PhaseIn s phase timer
   unfolding phase-in

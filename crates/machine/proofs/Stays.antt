@@ -149,7 +149,7 @@ module _ (s : Entry) (none : s .kind ≡ 0) where
   -- it settles as it is
   pub zero-settles : (c : Crossing) → NoCrossing c → settle s 1 c ≡ c
   unfolding settle phase-settled timer-settled out-settled booms-up
-  zero-settles c h = simp (no-reason c h, none, h .phase, h .timer) (same-phase c (h .phase) (h .timer) (h .out))
+  zero-settles c h = simp (no-reason c h, none, h .phase, h .timer, h .boom 0 (lit< tt), h .boom 1 (lit< tt)) (same-phase c (h .phase) (h .timer) (h .out))
 
   zero-ticks : (c : Crossing) → NoCrossing c → NoCrossing (tick s c)
   unfolding tick phase-ticked timer-ticked

@@ -2,16 +2,16 @@
 use mathlib.Core.Bool.{Bool, cond, not, _&&_, _||_}
 use mathlib.Core.List.{List, [], _∷_}
 use Prim.Native.Nat.{ℕ, _+_, _*_}
-use lib.Dec.{eqb, ltb, leb}
+use lib.Dec.{eqb, ltb}
 use lib.ListN.{length}
 use Rattle.machine.specs.Common.{concat-below, sum4, bit, refuse, low, high}
 use Rattle.machine.specs.Numbers.{bad-output-length, out-of-range}
-use Rattle.machine.specs.Plant.{Entry, Crossing, Plant, overdue-ticks, calling, waiting, route, boom, lamp, kiosk, operator, entry, crossing, dependent, booms-down, normal, secured}
+use Rattle.machine.specs.Plant.{Entry, Crossing, Plant, overdue-ticks, calling, waiting, route, boom, lamp, kiosk, operator, entry, crossing, dependent, lights-only, booms-down, normal, secured}
 use Rattle.machine.specs.Range.{in-range}
 
 -- there are booms: kinds 2 to 4
 abbrev pub has-booms : Entry → Bool
-has-booms s = leb 2 (s .kind)
+has-booms s = not (lights-only (s .kind))
 
 -- byte 0, road: 1 white in normal position, else 2 red; 0 dark if that lamp is dead
 unfoldable pub road : Entry → Crossing → ℕ

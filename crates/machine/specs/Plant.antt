@@ -120,9 +120,13 @@ fresh-plant s = record { site = s; beat = 0; crossings = tab 8 (λ i. fresh-cros
 unfoldable pub dependent : Entry → ℕ → Bool
 dependent s t = eqb ((s .mask / (2 ^ t)) % 2) 1
 
+-- Kind 1: lights only
+abbrev pub lights-only : ℕ → Bool
+lights-only kind = eqb kind 1
+
 -- Booms 0 and 1 stand right of the road, none for kind 1; 2 and 3 left, kind 4 alone
 abbrev pub boom-count : ℕ → ℕ
-boom-count kind = cond (leb kind 1) 0 (cond (eqb kind 4) 4 2)
+boom-count kind = cond (lights-only kind) 0 (cond (eqb kind 4) 4 2)
 
 -- What holds of a crossing -------------------------------------------------------------------------------------------------------
 -- the test holds of each boom that a kind has

@@ -1,9 +1,9 @@
 -- Ranges: number 15, a held number outside its range, and the ranges of the settings (number 3).
-use mathlib.Core.Bool.{Bool, cond, _&&_, _||_}
+use mathlib.Core.Bool.{Bool, cond, not, _&&_, _||_}
 use Prim.Native.Nat.{ℕ, suc, _^_}
 use lib.Dec.{eqb, ltb, leb}
 use Rattle.machine.specs.Common.{all-below}
-use Rattle.machine.specs.Plant.{Entry, Crossing, Plant, release-ticks, overdue-ticks, full, calling, waiting, route-flag, occupied-flag, boom, lamp-flag, trains, entry, crossing, dependent, boom-count}
+use Rattle.machine.specs.Plant.{Entry, Crossing, Plant, release-ticks, overdue-ticks, full, calling, waiting, route-flag, occupied-flag, boom, lamp-flag, trains, entry, crossing, dependent, lights-only, boom-count}
 
 -- G: 1 to 90 for kind 4, otherwise 0
 abbrev pub gap-in : ℕ → ℕ → Bool
@@ -48,7 +48,7 @@ unfoldable pub phase-in : Entry → ℕ → ℕ → Bool
 phase-in s phase timer =
     cond (eqb phase 1) (leb 1 timer && leb timer (s .pre))
     (cond (eqb phase 2) (eqb (s .kind) 4 && (leb 1 timer && leb timer (s .gap)))
-    (eqb timer 0 && (eqb phase 0 || eqb phase 3 || (eqb phase 4 && leb 2 (s .kind)))))
+    (eqb timer 0 && (eqb phase 0 || eqb phase 3 || (eqb phase 4 && not (lights-only (s .kind))))))
 
 -- the numbers of a crossing
 unfoldable pub crossing-in : Entry → Crossing → Bool

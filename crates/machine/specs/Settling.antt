@@ -3,7 +3,7 @@ use mathlib.Core.Bool.{Bool, cond, _&&_, _||_}
 use Prim.Native.Nat.{ℕ, suc, _+_}
 use lib.Dec.{eqb, leb}
 use Rattle.machine.specs.Common.{bit}
-use Rattle.machine.specs.Plant.{Entry, Crossing, overdue-ticks, boom, reason, booms-up}
+use Rattle.machine.specs.Plant.{Entry, Crossing, overdue-ticks, boom, lights-only, reason, booms-up}
 
 -- 0 with a reason: phase 1. 1 without: phase 0. 2 or 3 without: phase 4, kind 1 phase 0.
 -- 4 with every boom up: phase 1 if a reason stands, else 0. Otherwise 4.
@@ -11,7 +11,7 @@ unfoldable pub phase-settled : ℕ → Bool → Bool → ℕ → ℕ
 phase-settled kind stands up phase =
     cond (eqb phase 0 || eqb phase 1) (bit stands 1)
     (cond (eqb phase 4) (cond up (bit stands 1) 4)
-    (cond stands phase (cond (eqb kind 1) 0 4)))
+    (cond stands phase (cond (lights-only kind) 0 4)))
 
 -- timer F where a warning begins, as it was where the phase stays, otherwise 0
 unfoldable pub timer-settled : ℕ → ℕ → ℕ → ℕ → ℕ

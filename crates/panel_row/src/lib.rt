@@ -25,12 +25,12 @@ pub fn is_secured(s: Entry, c: Crossing) -> bool
 pub fn row(beat: u8, s: Entry, c: Crossing) -> [u8; 16]
     ensures { λ r. ⌜ r ≡ row beat s c ⌝ }
 {
+    let has_booms = !kind::lights_only(s.kind);
     let normal = is_normal(s, c);
     let secured = is_secured(s, c);
     let booms = c.booms;
     let calling = panel_bytes::sum(c.calling);
     let waiting = panel_bytes::sum(c.waiting);
-    let has_booms = 2 <= s.kind;
     let road = aspect::road(normal, c.lamps[0] == 1, c.lamps[1] == 1);
     let signal = aspect::signal(secured, c.lamps[3] == 1, c.lamps[2] == 1);
     let on = aspect::rhythm(beat, c.lamps[4] == 1, normal);

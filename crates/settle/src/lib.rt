@@ -35,7 +35,7 @@ fn phase_settled(kind: u8, stands: bool, up: bool, phase: u8) -> u8
             if stands {
                 return phase;
             }
-            if kind == 1 { 0 } else { 4 }
+            if kind::lights_only(kind) { 0 } else { 4 }
         }
     }
 }

@@ -9,7 +9,7 @@ use borrow.Author.Tests.{eqb-true}
 use Rattle.machine.specs.declared.Entry.{Entry}
 use Rattle.machine.specs.declared.Crossing.{Crossing}
 use Rattle.machine.specs.declared.Event.{Event}
-use Rattle.machine.specs.Plant.{full, trains, boom-count}
+use Rattle.machine.specs.Plant.{full, trains, lights-only, boom-count}
 use Rattle.machine.specs.Events.{is, on-track, place-limit, refusal}
 use Rattle.machine.proofs.Tools.{by-test, by-cond}
 use Rattle.machine.proofs.Entries.{EntryIn}
@@ -31,7 +31,7 @@ limit-fits s code four = by-test (eqb code 9)
     by-cond (λ x. x ≤ 4) (eqb code 8) (λ _. booms (s .kind)) (λ _. lit≤ tt))))
   where
     booms : (kind : ℕ) → boom-count kind ≤ 4
-    booms kind = by-cond (λ x. x ≤ 4) (leb kind 1) (λ _. lit≤ tt) (λ _. by-cond (λ x. x ≤ 4) (eqb kind 4) (λ _. lit≤ tt) (λ _. lit≤ tt))
+    booms kind = by-cond (λ x. x ≤ 4) (lights-only kind) (λ _. lit≤ tt) (λ _. by-cond (λ x. x ≤ 4) (eqb kind 4) (λ _. lit≤ tt) (λ _. lit≤ tt))
 
 pub taken-room : (n : ℕ) (s : Entry) (c : Crossing) (e : Event) → EntryIn s → CrossingIn s c → refusal n s c e ≡ 0 → Room c e
 unfolding place-limit

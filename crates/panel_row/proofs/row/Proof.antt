@@ -4,6 +4,9 @@ use borrow.Author.Needs.{needs}
 use Rattle.panel_row.proofs.row.Statement.{statement}
 use Rattle.panel_row.proofs.row.Tie as tie
 
+lights-only-requires : tie.Need-lights-only-requires
+lights-only-requires c κs = search needs
+
 is-normal-requires : tie.Need-is-normal-requires
 is-normal-requires c κs = search needs
 
@@ -84,12 +87,13 @@ high-requires-2 c κs = search needs
 
 returns : tie.Need-returns
 unfolding row road signal distant lit bell boom-lamps right-down left-down released releases-shown status holds
-returns c = simp (c .high2 .ensures, c .before .low2 .ensures, c .before .before .high .ensures, c .before .before .before .low .ensures, c .before .before .before .before .flags3 .ensures, c .before .before .before .before .before .flags2 .ensures, c .before .before .before .before .before .before .released .ensures, c .before .before .before .before .before .before .before .before .distant .ensures, c .before .before .before .before .before .before .before .before .before .bit4 .ensures, c .before .before .before .before .before .before .before .before .before .before .before .bit3 .ensures, c .before .before .before .before .before .before .before .before .before .before .before .before .bit2 .ensures, c .before .before .before .before .before .before .before .before .before .before .before .before .before .bit .ensures, c .before .before .before .before .before .before .before .before .before .before .before .before .before .before .down .ensures, c .before .before .before .before .before .before .before .before .before .before .before .before .before .before .before .flags .ensures, c .before .before .before .before .before .before .before .before .before .before .before .before .before .before .before .before .rhythm .ensures, c .before .before .before .before .before .before .before .before .before .before .before .before .before .before .before .before .before .before .signal .ensures, c .before .before .before .before .before .before .before .before .before .before .before .before .before .before .before .before .before .before .before .before .before .road .ensures, c .before .before .before .before .before .before .before .before .before .before .before .before .before .before .before .before .before .before .before .before .before .before .before .before .before .sum2 .ensures, c .before .before .before .before .before .before .before .before .before .before .before .before .before .before .before .before .before .before .before .before .before .before .before .before .before .before .before .sum .ensures, c .before .before .before .before .before .before .before .before .before .before .before .before .before .before .before .before .before .before .before .before .before .before .before .before .before .before .before .before .before .before .is-secured .ensures, c .before .before .before .before .before .before .before .before .before .before .before .before .before .before .before .before .before .before .before .before .before .before .before .before .before .before .before .before .before .before .before .is-normal .ensures, add-zero)
+returns c = simp (c .high2 .ensures, c .before .low2 .ensures, c .before .before .high .ensures, c .before .before .before .low .ensures, c .before .before .before .before .flags3 .ensures, c .before .before .before .before .before .flags2 .ensures, c .before .before .before .before .before .before .released .ensures, c .before .before .before .before .before .before .before .before .distant .ensures, c .before .before .before .before .before .before .before .before .before .bit4 .ensures, c .before .before .before .before .before .before .before .before .before .before .before .bit3 .ensures, c .before .before .before .before .before .before .before .before .before .before .before .before .bit2 .ensures, c .before .before .before .before .before .before .before .before .before .before .before .before .before .bit .ensures, c .before .before .before .before .before .before .before .before .before .before .before .before .before .before .down .ensures, c .before .before .before .before .before .before .before .before .before .before .before .before .before .before .before .flags .ensures, c .before .before .before .before .before .before .before .before .before .before .before .before .before .before .before .before .rhythm .ensures, c .before .before .before .before .before .before .before .before .before .before .before .before .before .before .before .before .before .before .signal .ensures, c .before .before .before .before .before .before .before .before .before .before .before .before .before .before .before .before .before .before .before .before .before .road .ensures, c .before .before .before .before .before .before .before .before .before .before .before .before .before .before .before .before .before .before .before .before .before .before .before .before .sum2 .ensures, c .before .before .before .before .before .before .before .before .before .before .before .before .before .before .before .before .before .before .before .before .before .before .before .before .before .before .sum .ensures, c .before .before .before .before .before .before .before .before .before .before .before .before .before .before .before .before .before .before .before .before .before .before .before .before .before .before .before .before .before .is-secured .ensures, c .before .before .before .before .before .before .before .before .before .before .before .before .before .before .before .before .before .before .before .before .before .before .before .before .before .before .before .before .before .before .is-normal .ensures, c .before .before .before .before .before .before .before .before .before .before .before .before .before .before .before .before .before .before .before .before .before .before .before .before .before .before .before .before .before .before .before .lights-only .ensures, add-zero)
 
 pub row-spec : {M : Type 1} → statement M
 row-spec =
     tie.close
     (tie.spec
+    lights-only-requires
     is-normal-requires
     is-secured-requires
     sum-requires

@@ -1,4 +1,5 @@
-use borrow.Author.Tests.{eq-eqb, ne-eqb}
+use borrow.Author.Needs.{needs}
+use borrow.Author.Tests.{ne-eqb}
 use Rattle.machine.specs.Settling.{phase-settled}
 use Rattle.settle.proofs.phase_settled.Statement.{statement}
 use Rattle.settle.proofs.phase_settled.Tie as tie
@@ -6,6 +7,9 @@ use Rattle.settle.proofs.phase_settled.Tie as tie
 returns : tie.Need-returns
 unfolding phase-settled
 returns c = simp (c .if5 .taken, ne-eqb _ _ (c .before .match .rest .1), ne-eqb _ _ (c .before .match .rest .0 .1), ne-eqb _ _ (c .before .match .rest .0 .0 .1))
+
+lights-only-requires : tie.Need-lights-only-requires
+lights-only-requires c κs = search needs
 
 returns-2 : tie.Need-returns-2
 unfolding phase-settled
@@ -37,17 +41,18 @@ returns-8 c = simp (c .if3 .left, c .before .match .keys3)
 
 returns-9 : tie.Need-returns-9
 unfolding phase-settled
-returns-9 c = simp (eq-eqb _ _ (c .if6 .taken), c .before .if5 .left, ne-eqb _ _ (c .before .before .match .rest .1), ne-eqb _ _ (c .before .before .match .rest .0 .1), ne-eqb _ _ (c .before .before .match .rest .0 .0 .1))
+returns-9 c = simp (← c .before .lights-only .ensures, c .if6 .taken, c .before .before .if5 .left, ne-eqb _ _ (c .before .before .before .match .rest .1), ne-eqb _ _ (c .before .before .before .match .rest .0 .1), ne-eqb _ _ (c .before .before .before .match .rest .0 .0 .1))
 
 returns-10 : tie.Need-returns-10
 unfolding phase-settled
-returns-10 c = simp (ne-eqb _ _ (c .if6 .left), c .before .if5 .left, ne-eqb _ _ (c .before .before .match .rest .1), ne-eqb _ _ (c .before .before .match .rest .0 .1), ne-eqb _ _ (c .before .before .match .rest .0 .0 .1))
+returns-10 c = simp (← c .before .lights-only .ensures, c .if6 .left, c .before .before .if5 .left, ne-eqb _ _ (c .before .before .before .match .rest .1), ne-eqb _ _ (c .before .before .before .match .rest .0 .1), ne-eqb _ _ (c .before .before .before .match .rest .0 .0 .1))
 
 pub phase-settled-spec : {M : Type 1} → statement M
 phase-settled-spec =
     tie.close
     (tie.spec
     returns
+    lights-only-requires
     returns-2
     returns-3
     returns-4
