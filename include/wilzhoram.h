@@ -2,11 +2,13 @@
  *
  * Every call ends on every input and answers with a number: 0 taken, otherwise a refusal of the table in README.md.
  * A refused call gives back the plant it was given and zero counts, and leaves every lent byte as it was.
- * A bool holds 0 or 1; every other field may hold any value (out of its range: number 15, in settings to write 2 or 3). */
+ * Every field of a plant, settings or event may hold any value: a plant with one outside its range is number 15,
+ * settings to write 2 or 3, an event 5 to 8. Padding bytes are no part of a plant: they count nowhere and are not kept.
+ * A null pointer with length 0 is an empty slice and gets its number. A sheet and a panel must not overlap.
+ * Every call is reentrant, keeps no state and allocates nothing. */
 #ifndef WILZHORAM_H
 #define WILZHORAM_H
 
-#include <stdbool.h>
 #include <stddef.h>
 #include <stdint.h>
 
@@ -29,17 +31,17 @@ typedef struct {
     wilzhoram_entry entries[8];
 } wilzhoram_site;
 
-/* What the plant holds for one crossing. */
+/* What the plant holds for one crossing. A flag is 0 or 1. */
 typedef struct {
     uint8_t calling[4], waiting[4]; /* trains, by track */
-    bool route[4], occupied[4];     /* by track */
+    uint8_t route[4], occupied[4];  /* flags, by track */
     uint8_t booms[4];               /* last reports: 0 up, 1 moving, 2 down */
-    bool lamps[5];                  /* road white, road red, train signal red, train signal white, flasher; true whole */
-    bool kiosk, operator_hold;
-    uint16_t countdown; /* of the time release, 0 to 270 */
-    uint8_t phase;      /* 0 open, 1 warning, 2 right booms ordered down, 3 all ordered down, 4 raising */
-    uint16_t timer;
-    uint16_t out; /* ticks out of normal, 0 to 901 */
+    uint8_t lamps[5];               /* flags, 1 whole: road white, road red, train signal red and white, flasher */
+    uint8_t kiosk, operator_hold;   /* flags */
+    uint16_t countdown;             /* of the time release, 0 to 270 */
+    uint8_t phase;                  /* 0 open, 1 warning, 2 right booms ordered down, 3 all ordered down, 4 raising */
+    uint16_t timer;                 /* 1 to F in phase 1, 1 to G in phase 2, otherwise 0 */
+    uint16_t out;                   /* ticks out of normal, 0 to 901 */
 } wilzhoram_crossing;
 
 /* The plant: it goes in and comes back by value. */
@@ -90,6 +92,15 @@ uint8_t wilzhoram_draw(wilzhoram_plant plant, uint8_t *panel, size_t length);
 /* Applies each event of a sheet in turn and draws the panel after the last: 0, or number 2, 4, 14 or 15. */
 wilzhoram_run_result wilzhoram_run(wilzhoram_plant plant, const uint8_t *sheet, size_t sheet_length, uint8_t *panel,
                                    size_t panel_length);
+
+/* The stack that a call needs, in bytes: the room for its result and arguments by value, and all that it uses below them.
+ * Measured by ci/boundary on a thread with a painted stack, over every number and event code, and rounded up. The C
+ * library's memory functions, all that a call calls, are bound when the program starts (-z now, or linked statically). */
+#define WILZHORAM_STACK_READ 768
+#define WILZHORAM_STACK_WRITE 320
+#define WILZHORAM_STACK_EVENT 3200
+#define WILZHORAM_STACK_DRAW 1024
+#define WILZHORAM_STACK_RUN 2816
 
 #ifdef __cplusplus
 }

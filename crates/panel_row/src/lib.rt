@@ -2,32 +2,15 @@
 use machine::Crossing;
 use machine::Entry;
 ghost use mathlib.Core.Path.{_≡_};
-ghost use Rattle.machine.specs.Plant.{normal, secured};
 ghost use Rattle.machine.specs.Panel.{row};
-
-// Normal position: open, and every boom last reported up.
-pub fn is_normal(s: Entry, c: Crossing) -> bool
-    ensures { λ r. ⌜ r ≡ normal s c ⌝ }
-{
-    let booms = c.booms;
-    (c.phase == 0) & kind::booms::up(s.kind, booms)
-}
-
-// Secured: all ordered down, the road's red whole, and the booms as the kind demands.
-pub fn is_secured(s: Entry, c: Crossing) -> bool
-    ensures { λ r. ⌜ r ≡ secured s c ⌝ }
-{
-    let booms = c.booms;
-    (c.phase == 3) & (c.lamps[1] == 1) & kind::booms::closed(s.kind, booms)
-}
 
 // The sixteen bytes of one crossing.
 pub fn row(beat: u8, s: Entry, c: Crossing) -> [u8; 16]
     ensures { λ r. ⌜ r ≡ row beat s c ⌝ }
 {
     let has_booms = !kind::lights_only(s.kind);
-    let normal = is_normal(s, c);
-    let secured = is_secured(s, c);
+    let normal = position::is_normal(s, c);
+    let secured = position::is_secured(s, c);
     let booms = c.booms;
     let calling = panel_bytes::sum(c.calling);
     let waiting = panel_bytes::sum(c.waiting);

@@ -1,7 +1,7 @@
 use Rattle.machine.specs.Plant.{secured}
 use borrow.Author.Needs.{needs}
-use Rattle.panel_row.proofs.is_secured.Statement.{statement}
-use Rattle.panel_row.proofs.is_secured.Tie as tie
+use Rattle.position.proofs.is_secured.Statement.{statement}
+use Rattle.position.proofs.is_secured.Tie as tie
 
 element-copy-out-result : tie.Need-element-copy-out-result
 element-copy-out-result c = search needs

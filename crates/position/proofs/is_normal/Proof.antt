@@ -1,7 +1,7 @@
 use Rattle.machine.specs.Plant.{normal}
 use borrow.Author.Needs.{needs}
-use Rattle.panel_row.proofs.is_normal.Statement.{statement}
-use Rattle.panel_row.proofs.is_normal.Tie as tie
+use Rattle.position.proofs.is_normal.Statement.{statement}
+use Rattle.position.proofs.is_normal.Tie as tie
 
 up-requires : tie.Need-up-requires
 up-requires c κs = search needs

@@ -1,0 +1,21 @@
+// Normal position and secured (document 01, "What the plant holds").
+use machine::Crossing;
+use machine::Entry;
+ghost use mathlib.Core.Path.{_≡_};
+ghost use Rattle.machine.specs.Plant.{normal, secured};
+
+// Normal position: open, and every boom last reported up.
+pub fn is_normal(s: Entry, c: Crossing) -> bool
+    ensures { λ r. ⌜ r ≡ normal s c ⌝ }
+{
+    let booms = c.booms;
+    (c.phase == 0) & kind::booms::up(s.kind, booms)
+}
+
+// Secured: all ordered down, the road's red whole, and the booms as the kind demands.
+pub fn is_secured(s: Entry, c: Crossing) -> bool
+    ensures { λ r. ⌜ r ≡ secured s c ⌝ }
+{
+    let booms = c.booms;
+    (c.phase == 3) & (c.lamps[1] == 1) & kind::booms::closed(s.kind, booms)
+}

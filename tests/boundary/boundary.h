@@ -1,0 +1,38 @@
+/* Shared by the tests of the C boundary: the ranges of a plant, seeded inputs, and the numbers answered. */
+#ifndef BOUNDARY_H
+#define BOUNDARY_H
+
+#include "wilzhoram.h"
+#include <stdbool.h>
+
+enum { BOOK_MOST = 1 + 7 * 8, SHEET_MOST = 2 + 4 * 4096, PANEL_MOST = 16 * 8, SPOILT = 15 };
+
+/* range.c: document 01, "Site book" and "What the plant holds". */
+unsigned settings_number(const wilzhoram_site *site); /* 0, 2 or 3 */
+bool in_range(const wilzhoram_plant *plant);
+bool same_plant(const wilzhoram_plant *a, const wilzhoram_plant *b); /* field by field */
+
+/* inputs.c: the same on every machine. */
+uint32_t below(uint32_t limit);
+void random_bytes(void *at, size_t length);
+size_t random_book(uint8_t *book, unsigned n);
+wilzhoram_plant random_fresh(unsigned n);
+wilzhoram_event_bytes random_event(unsigned n);
+size_t random_sheet(uint8_t *sheet, unsigned events, unsigned n);
+void change(wilzhoram_plant *plant); /* one to three bytes, padding included */
+
+/* tally.c: a bit for each number that a call may answer, and how often it did. */
+typedef struct {
+    const char *name;
+    unsigned may;
+    unsigned long met[16];
+} tally;
+
+extern tally of_read, of_write, of_event, of_draw, of_run;
+
+_Noreturn void fail(const char *format, ...);
+void answered(tally *call, unsigned number); /* fails on a number that the call may not answer */
+void all_met(const tally *call, unsigned numbers);
+void print_tally(const tally *call);
+
+#endif

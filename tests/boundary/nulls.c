@@ -1,0 +1,55 @@
+/* A null pointer with length 0 for every pointer of every call: an empty slice, with its number. */
+#include "boundary.h"
+#include <stdio.h>
+#include <string.h>
+
+static unsigned calls;
+
+static void expect(const char *call, unsigned number, unsigned wanted) {
+    calls++;
+    if (number != wanted)
+        fail("%s: number %u, %u expected", call, number, wanted);
+}
+
+static void expect_run(const wilzhoram_plant *plant, const uint8_t *sheet, size_t length, size_t panel, unsigned wanted) {
+    static uint8_t lent[PANEL_MOST], before[PANEL_MOST];
+    wilzhoram_run_result run = wilzhoram_run(*plant, sheet, length, panel == 0 ? NULL : lent, panel);
+    expect("run", run.number, wanted);
+    if (!same_plant(&run.plant, plant) || run.taken != 0 || run.refused != 0 || run.written != 0)
+        fail("run: number %u with another plant or counts", run.number);
+    if (memcmp(lent, before, sizeof lent) != 0)
+        fail("run: number %u with a lent byte changed", run.number);
+}
+
+static void runs(const wilzhoram_plant *plant, const wilzhoram_plant *spoilt) {
+    static const uint8_t whole[2], torn[2] = {1, 0}, long_sheet[2] = {1, 16}; /* sizes 0, 1 and 4,097 */
+    size_t panel = 16 * (size_t)plant->site.n;
+    expect_run(plant, NULL, 0, 0, 4);
+    expect_run(plant, NULL, 0, panel, 4);
+    expect_run(plant, whole, 2, 0, 14);
+    expect_run(plant, torn, 2, 0, 4);
+    expect_run(plant, long_sheet, 2, 0, 2);
+    expect_run(spoilt, NULL, 0, 0, SPOILT);
+    expect_run(spoilt, NULL, 0, panel, SPOILT);
+    expect_run(spoilt, whole, 2, 0, SPOILT);
+}
+
+int main(void) {
+    static const wilzhoram_plant zero;
+    wilzhoram_plant plant = random_fresh(3), spoilt = plant;
+    wilzhoram_site wrong = plant.site;
+    wilzhoram_reading reading = wilzhoram_read(NULL, 0);
+    spoilt.beat = 4;
+    wrong.entries[2].tracks = 5;
+    expect("read", reading.number, 1);
+    if (!same_plant(&reading.plant, &zero))
+        fail("read: number 1 with another plant than that of an all-zero site");
+    expect("write", wilzhoram_write(plant.site, NULL, 0), 14);
+    expect("write", wilzhoram_write(zero.site, NULL, 0), 2);
+    expect("write", wilzhoram_write(wrong, NULL, 0), 3);
+    expect("draw", wilzhoram_draw(plant, NULL, 0), 14);
+    expect("draw", wilzhoram_draw(spoilt, NULL, 0), SPOILT);
+    runs(&plant, &spoilt);
+    printf("boundary: %u calls with a null pointer of length 0, each with its number\n", calls);
+    return 0;
+}

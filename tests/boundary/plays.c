@@ -1,0 +1,136 @@
+/* The plays: loops over inputs made before, in which nothing is called but the engine. */
+#include "plays.h"
+
+enum { PLANTS = 320, BOOKS = 200, SHEETS = 8 };
+
+static wilzhoram_plant plants[PLANTS];
+static uint8_t books[BOOKS][BOOK_MOST], sheets[SHEETS][SHEET_MOST], lent[PANEL_MOST];
+static size_t book_lengths[BOOKS], sheet_lengths[SHEETS];
+unsigned met;
+
+typedef struct {
+    wilzhoram_reading (*read)(const uint8_t *, size_t);
+    uint8_t (*write)(wilzhoram_site, uint8_t *, size_t);
+    wilzhoram_answer (*event)(wilzhoram_plant, wilzhoram_event_bytes);
+    uint8_t (*draw)(wilzhoram_plant, uint8_t *, size_t);
+    wilzhoram_run_result (*run)(wilzhoram_plant, const uint8_t *, size_t, uint8_t *, size_t);
+} engine;
+
+static wilzhoram_reading idle_read(const uint8_t *book, size_t length) {
+    wilzhoram_reading reading;
+    reading.number = book == NULL && length == 0;
+    return reading;
+}
+
+static uint8_t idle_write(wilzhoram_site site, uint8_t *book, size_t length) {
+    return site.n == 0 && book == NULL && length == 0;
+}
+
+static wilzhoram_answer idle_event(wilzhoram_plant plant, wilzhoram_event_bytes event) {
+    wilzhoram_answer answer;
+    answer.number = plant.beat == event.code;
+    return answer;
+}
+
+static uint8_t idle_draw(wilzhoram_plant plant, uint8_t *panel, size_t length) {
+    return plant.beat == 0 && panel == NULL && length == 0;
+}
+
+static wilzhoram_run_result idle_run(wilzhoram_plant plant, const uint8_t *sheet, size_t length, uint8_t *panel, size_t size) {
+    wilzhoram_run_result run;
+    run.number = plant.beat == 0 && sheet == panel && length == size;
+    return run;
+}
+
+static const engine idle_engine = {idle_read, idle_write, idle_event, idle_draw, idle_run};
+static const engine real_engine = {wilzhoram_read, wilzhoram_write, wilzhoram_event, wilzhoram_draw, wilzhoram_run};
+static const engine *volatile now; /* volatile: the compiler makes one code for both */
+
+void use_engine(bool real) {
+    now = real ? &real_engine : &idle_engine;
+}
+
+static void play_read(void) {
+    for (int i = 0; i < BOOKS; i++)
+        met |= 1u << (now->read(books[i], book_lengths[i]).number & 31);
+}
+
+static void play_write(void) {
+    for (int i = 0; i < PLANTS; i++)
+        for (size_t length = 0; length <= BOOK_MOST; length++)
+            met |= 1u << (now->write(plants[i].site, lent, length) & 31);
+}
+
+/* Codes, crossings, places and values of the table, and one beyond each. */
+static void play_event(void) {
+    for (int i = 0; i < PLANTS; i++)
+        for (unsigned at = 0; at < 11 * 9 * 6 * 4; at++) {
+            wilzhoram_event_bytes event = {(uint8_t)(at % 11), (uint8_t)(at / 11 % 9), (uint8_t)(at / 99 % 6),
+                                           (uint8_t)(at / 594)};
+            met |= 1u << (now->event(plants[i], event).number & 31);
+        }
+}
+
+static void play_draw(void) {
+    for (int i = 0; i < PLANTS; i++)
+        for (size_t length = 0; length <= PANEL_MOST; length++)
+            met |= 1u << (now->draw(plants[i], lent, length) & 31);
+}
+
+static void play_run(void) {
+    for (int i = 0; i < PLANTS; i++)
+        for (int k = 0; k < SHEETS; k++)
+            for (size_t length = 0; length <= PANEL_MOST; length += 16)
+                met |= 1u << (now->run(plants[i], sheets[k], sheet_lengths[k], lent, length).number & 31);
+}
+
+#define UP(size) (((size) + 7) / 8 * 8)
+#define PLANT UP(sizeof(wilzhoram_plant))
+
+const measured calls[CALLS] = {
+    {&of_read, play_read, UP(sizeof(wilzhoram_reading)), WILZHORAM_STACK_READ},
+    {&of_write, play_write, UP(sizeof(wilzhoram_site)), WILZHORAM_STACK_WRITE},
+    {&of_event, play_event, UP(sizeof(wilzhoram_answer)) + PLANT, WILZHORAM_STACK_EVENT},
+    {&of_draw, play_draw, PLANT, WILZHORAM_STACK_DRAW},
+    {&of_run, play_run, UP(sizeof(wilzhoram_run_result)) + PLANT, WILZHORAM_STACK_RUN},
+};
+
+/* n from 1 to 8 in turn, each plant after a random sheet; some are then spoilt, some have a full track. */
+static void make_plants(void) {
+    static uint8_t sheet[SHEET_MOST];
+    for (int i = 0; i < PLANTS; i++) {
+        unsigned n = 1 + (unsigned)i % 8;
+        wilzhoram_plant fresh = random_fresh(n);
+        size_t length = random_sheet(sheet, below(600), n);
+        plants[i] = wilzhoram_run(fresh, sheet, length, lent, 16 * n).plant;
+        switch (i / 8 % 8) {
+        case 0: change(&plants[i]); break;
+        case 1: plants[i].site.n = 0; break;
+        case 2: plants[i].site.entries[n - 1].gap = 91; break;
+        case 3:
+            plants[i].crossings[0].calling[0] = 255;
+            plants[i].crossings[0].waiting[0] = 0;
+        }
+    }
+}
+
+/* Books and sheets: whole, torn, over-long, and books with a byte changed. */
+static void make_files(void) {
+    static const unsigned events[SHEETS] = {0, 1, 2, 50, 300, 4096, 4096, 4096};
+    for (int i = 0; i < BOOKS; i++) {
+        book_lengths[i] = random_book(books[i], 1 + (unsigned)i % 8);
+        if (i / 8 % 3 == 1)
+            books[i][below((uint32_t)book_lengths[i])] = (uint8_t)below(256);
+        else if (i / 8 % 3 == 2)
+            book_lengths[i] = below(BOOK_MOST + 1);
+    }
+    for (int i = 0; i < SHEETS; i++)
+        sheet_lengths[i] = random_sheet(sheets[i], events[i], 8);
+    sheet_lengths[2]--;
+    sheets[SHEETS - 1][0] = 1; /* size 4,097 */
+}
+
+void make_inputs(void) {
+    make_plants();
+    make_files();
+}

@@ -1,0 +1,46 @@
+/* The numbers of each call (document 01, "Numbers at the hut"), and which were met. */
+#include "boundary.h"
+#include <stdarg.h>
+#include <stdio.h>
+#include <stdlib.h>
+
+tally of_read = {"read", 1u | 1u << 1 | 1u << 2 | 1u << 3, {0}};
+tally of_write = {"write", 1u | 1u << 2 | 1u << 3 | 1u << 14, {0}};
+tally of_event = {"event", 1u | 0x1ffu << 5 | 1u << 15, {0}}; /* 5 to 13 */
+tally of_draw = {"draw", 1u | 1u << 14 | 1u << 15, {0}};
+tally of_run = {"run", 1u | 1u << 2 | 1u << 4 | 1u << 14 | 1u << 15, {0}};
+
+void fail(const char *format, ...) {
+    va_list rest;
+    va_start(rest, format);
+    fputs("boundary: FAILED: ", stdout);
+    vprintf(format, rest);
+    puts("");
+    va_end(rest);
+    exit(1);
+}
+
+void answered(tally *call, unsigned number) {
+    if (number > 15 || !(call->may >> number & 1))
+        fail("%s: number %u, which is none of its numbers", call->name, number);
+    call->met[number]++;
+}
+
+void all_met(const tally *call, unsigned numbers) {
+    for (unsigned number = 0; number < 16; number++)
+        if (call->may >> number & ~numbers >> number & 1)
+            fail("%s: number %u was never met", call->name, number);
+}
+
+void print_tally(const tally *call) {
+    unsigned long other = 0;
+    unsigned numbers = 0;
+    for (unsigned number = 0; number < 16; number++) {
+        numbers |= (call->met[number] != 0) << number;
+        other += number == 0 || number == SPOILT ? 0 : call->met[number];
+    }
+    printf("; %s %lu taken, %lu refused", call->name, call->met[0], other);
+    if (call->may >> SPOILT & 1)
+        printf(", %lu refused 15", call->met[SPOILT]);
+    all_met(call, numbers);
+}
