@@ -15,8 +15,7 @@ use Rattle.machine.specs.Effects.{calling-after, waiting-after, act, releases, 
 use Rattle.machine.specs.Settling.{settle}
 use Rattle.machine.proofs.Tools.{below4}
 use Rattle.machine.proofs.Trains.{trains-after}
-use Rattle.demand.specs.Ledger as ledger
-use Rattle.demand.specs.Ledger.{count, State, next}
+use Rattle.demand.specs.Ledger.{count, State, trains as all-trains, next}
 use Rattle.demand.proofs.Agree.{Agree}
 
 -- a mark at one place of four
@@ -37,7 +36,7 @@ module _ (s : Entry) (i : ℕ) {c : Crossing} {k : State} (a : Agree c k) (e : E
       at : (t : ℕ) → t < 4 → k .queue t .calling + k .queue t .waiting ≡ trains c t
       at t b = sym (ap (λ q. q .calling + q .waiting) (a .queue t b))
 
-      same : ledger.trains k ≡ total c
+      same : all-trains k ≡ total c
       same = omega (arith, at 0 (lit< tt), at 1 (lit< tt), at 2 (lit< tt), at 3 (lit< tt))
 
   -- an event of this crossing: at a track where its code asks for one, and a passage of a train that is there

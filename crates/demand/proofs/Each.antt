@@ -19,7 +19,7 @@ use Rattle.machine.specs.Step.{after, touch}
 use Rattle.machine.proofs.Tools.{by-test, by-cond, neither, below4, each-tab}
 use Rattle.machine.proofs.Taken.{Accepted}
 use Rattle.machine.proofs.Ranges.{PhaseIn, opened, warning, right, closed, raising}
-use Rattle.demand.specs.Ledger.{taken, note, log, count, State, next, state}
+use Rattle.demand.specs.Ledger.{taken, note, log, count, next, state}
 use Rattle.demand.specs.Demand.{known, stands-after, Unbroken}
 use Rattle.demand.proofs.Lists.{log-snoc}
 use Rattle.demand.proofs.Unbroken.{stands-now, begins, goes-on}
@@ -64,9 +64,6 @@ module _ (p : Plant) (es : List Event) (e : Event) (i : ℕ) (c : Crossing) (k :
   abbrev h : List Event
   h = log p i es
 
-  abbrev b : State
-  b = known p i es
-
   abbrev more : List Event
   more = es ++ e ∷ []
 
@@ -87,7 +84,7 @@ module _ (p : Plant) (es : List Event) (e : Event) (i : ℕ) (c : Crossing) (k :
     longer-log : log p i more ≡ e ∷ h
     longer-log = log-snoc p i es e ∙ rw noted
 
-    settled : (add : ℕ) (d : Crossing) → Agree (settle s add d) (next s e b) → Even (settle s add d) (next s e b) (e ∷ h)
+    settled : (add : ℕ) (d : Crossing) → Agree (settle s add d) (next s e (known p i es)) → Even (settle s add d) (next s e (known p i es)) (e ∷ h)
         → (stands-after p i more ≡ true → Timed (λ n. Unbroken p i n more) s (d .phase) (d .timer)) → Holds p more i (settle s add d)
     unfolding settle reason state
     settled add d a v f = record {
@@ -121,7 +118,7 @@ module _ (p : Plant) (es : List Event) (e : Event) (i : ℕ) (c : Crossing) (k :
         (λ o. acted (rw (t, z, o)) z few (a o))
         (λ o. skipped (rw (t, z, o))))
 
-    pub written-touched : known p i more .written ≡ b .written + written-at s i c e
+    pub written-touched : known p i more .written ≡ known p i es .written + written-at s i c e
     unfolding note state written-at
     written-touched = by-test (is 0 e || eqb (e .crossing) i)
         (λ o. rw (longer-log (rw (t, o))) (written-more s i (k .agree) e))

@@ -24,10 +24,6 @@ use Rattle.demand.proofs.Lists.{snoc-induction, after-append, carried-a
 use Rattle.demand.proofs.Each.{Holds, fresh-holds, skipped, touched, written-touched}
 use Rattle.demand.proofs.Answers.{zero-number, crossing-after, taken-written, refused-step}
 
--- the trains written off by the ledgers of all crossings
-abbrev all-written : Plant → List Event → ℕ
-all-written p es = sum-below (p .site .n) (λ i. known p i es .written)
-
 -- the claim's own sum is the machine's
 pub same-sum : (n : ℕ) (f : ℕ → ℕ) → sum-over n f ≡ sum-below n f
 unfolding sum-over
@@ -38,7 +34,7 @@ pub record Sound (p : Plant) (es : List Event) : Type 0 where
   pub site : after p es .site ≡ p .site
   pub range : in-range (after p es) ≡ true
   pub each : (i : ℕ) → i < p .site .n → Holds p es i (crossing (after p es) i)
-  pub sum : all-written p es ≡ carried p es
+  pub sum : sum-below (p .site .n) (λ i. known p i es .written) ≡ carried p es
 
 module _ (p : Plant) where
   none : in-range p ≡ true → ((i : ℕ) → i < p .site .n → crossing p i ≡ fresh-crossing true) → Sound p []
