@@ -1,6 +1,6 @@
 //! One input for both engines, and how it is made.
 
-use engine::{book_len, panel_len, Plant, Site, MAX_EVENTS};
+use engine::{book_len, in_range, panel_len, Plant, Site, MAX_EVENTS};
 use gen::{
     all_lengths, book, coherent, damaged_book, damaged_sheet, event, event_grid, frame, junk_event,
     mixed, plant, quick_site, sheet_bytes, site, spoilt_plant, BookDamage, Rng, SheetDamage, Spoil,
@@ -159,7 +159,7 @@ fn run_case(rng: &mut Rng) -> Case {
     let spoilt = rng.once_in(8);
     let plant = if spoilt { any_plant(rng) } else { plant(rng) };
     let len = rng.within(0..=40) as usize;
-    let events = match plant.in_range() && rng.flag() {
+    let events = match in_range(&plant) && rng.flag() {
         true => coherent(rng, &plant, len),
         false => mixed(rng, &plant, len),
     };

@@ -6,7 +6,7 @@ use crate::engines::Planted;
 use crate::print::event_count;
 use crate::second::Proved;
 use crate::shrink::shrink;
-use engine::faulty::Fault;
+use faults::Fault;
 use gen::Coverage;
 use std::time::{Duration, Instant};
 
@@ -140,8 +140,8 @@ pub struct Found {
 }
 
 /// Looks for a fault planted in the plain engine, against the proved one.
-pub fn find_fault(fault: &Fault, plan: Plan) -> Option<Found> {
-    let planted = Planted::fault(fault);
+pub fn find_fault(fault: &'static Fault, plan: Plan) -> Option<Found> {
+    let planted = Planted(fault);
     let pair = Pair {
         first: &planted,
         second: &Proved,
@@ -156,8 +156,8 @@ pub fn find_fault(fault: &Fault, plan: Plan) -> Option<Found> {
 }
 
 /// How many events the smallest case found for a planted fault has.
-pub fn smallest(fault: &Fault, found: &Found) -> usize {
-    let planted = Planted::fault(fault);
+pub fn smallest(fault: &'static Fault, found: &Found) -> usize {
+    let planted = Planted(fault);
     let pair = Pair {
         first: &planted,
         second: &Proved,

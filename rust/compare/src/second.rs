@@ -48,11 +48,6 @@ impl Engine for Proved {
     }
 }
 
-/// The engine that the plain one is compared with.
-pub fn second() -> Box<dyn Engine> {
-    Box::new(Proved)
-}
-
 /// The same fields in the other engine's type.
 macro_rules! fields {
     ($from:expr => $($to:ident)::+ { $($field:ident),* }) => {

@@ -4,7 +4,8 @@ use compare::check::Pair;
 use compare::engines::{Plain, Planted};
 use compare::print::text;
 use compare::search::{find_fault, search, search_fixed, Plan};
-use engine::faulty::FAULTS;
+use compare::second::Proved;
+use faults::FAULTS;
 
 const CASES: u64 = 10_000;
 const SESSIONS: u64 = 400;
@@ -12,14 +13,26 @@ const SESSIONS: u64 = 400;
 /// Faults that no list of events from a fresh plant can show: in the lent frames, in the
 /// order of refusals of a book, in spoilt plants, and a repeated hold, since a hold stands
 /// in the way of a running countdown.
-const NOT_FROM_FRESH: [u32; 11] = [1, 2, 3, 4, 6, 7, 8, 9, 21, 50, 51];
+const NOT_FROM_FRESH: [&str; 11] = [
+    "book_any_gap",
+    "book_frame_first",
+    "book_length_first",
+    "book_past_n",
+    "countdown_repeated_hold",
+    "panel_draw_refused",
+    "range_lacking_boom",
+    "range_lamps_past_n",
+    "range_out",
+    "range_waiting_plain",
+    "sheet_frame_first",
+];
 
 #[test]
 fn every_planted_fault_is_found() {
     for seed in [1, 2] {
         let plan = Plan::of_cases(seed, CASES);
         let missed = FAULTS.iter().filter(|f| find_fault(f, plan).is_none());
-        let missed: Vec<&str> = missed.map(|f| f.text).collect();
+        let missed: Vec<&str> = missed.map(|f| f.name).collect();
         assert!(missed.is_empty(), "seed {seed}: not found {missed:?}");
     }
 }
@@ -31,7 +44,7 @@ fn sessions_alone_find_what_shows_from_fresh() {
         ..Plan::of_cases(4, SESSIONS)
     };
     let missed = FAULTS.iter().filter(|f| find_fault(f, plan).is_none());
-    let missed: Vec<u32> = missed.map(|f| f.number).collect();
+    let missed: Vec<&str> = missed.map(|f| f.name).collect();
     assert_eq!(missed, NOT_FROM_FRESH);
 }
 
@@ -39,7 +52,7 @@ fn sessions_alone_find_what_shows_from_fresh() {
 fn without_a_fault_nothing_differs_and_all_is_reached() {
     let pair = Pair {
         first: &Plain,
-        second: &Planted::none(),
+        second: &Proved,
     };
     assert!(search_fixed(pair).difference.is_none());
     let outcome = search(pair, Plan::of_cases(3, CASES), &mut |_, _| {});
@@ -52,8 +65,8 @@ fn without_a_fault_nothing_differs_and_all_is_reached() {
 
 #[test]
 fn differences_are_made_small() {
-    let of = |text: &str| FAULTS.iter().find(|f| f.text.contains(text)).unwrap();
-    let planted = Planted::fault(of("gives back only calling"));
+    let fault = FAULTS.iter().find(|f| f.name == "release_end_only_calling");
+    let planted = Planted(fault.unwrap());
     let pair = Pair {
         first: &Plain,
         second: &planted,

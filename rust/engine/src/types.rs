@@ -173,3 +173,25 @@ impl Plant {
         }
     }
 }
+
+/// The answer of a run.
+#[repr(C)]
+#[derive(Clone, Copy, PartialEq, Debug)]
+pub struct Run {
+    pub number: u8,
+    pub taken: u32,
+    pub refused: u32,
+    pub written_off: u32,
+}
+
+impl Run {
+    /// Nothing applied.
+    pub fn answer(number: u8) -> Run {
+        Run {
+            number,
+            taken: 0,
+            refused: 0,
+            written_off: 0,
+        }
+    }
+}

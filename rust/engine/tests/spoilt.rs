@@ -3,7 +3,7 @@
 mod common;
 
 use common::{entry, four_kinds, fresh};
-use engine::{Crossing, Entry, Plant};
+use engine::{in_range, Crossing, Entry, Plant};
 
 fn spoilt(plant: &Plant, change: impl FnOnce(&mut Plant)) {
     let mut changed = *plant;
@@ -14,7 +14,7 @@ fn spoilt(plant: &Plant, change: impl FnOnce(&mut Plant)) {
 fn sound(plant: &Plant, change: impl FnOnce(&mut Plant)) {
     let mut changed = *plant;
     change(&mut changed);
-    assert!(changed.in_range());
+    assert!(in_range(&changed));
     assert_eq!(engine::event(&mut changed, [9, 0, 0, 1]).0, 0);
 }
 
@@ -96,7 +96,7 @@ fn phases_and_timers() {
                 let mut changed = plant;
                 changed.crossings[usize::from(kind) - 1].phase = phase;
                 changed.crossings[usize::from(kind) - 1].timer = timer;
-                assert_eq!(changed.in_range(), known, "{kind} {phase} {timer}");
+                assert_eq!(in_range(&changed), known, "{kind} {phase} {timer}");
             }
         }
     }

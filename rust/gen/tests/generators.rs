@@ -1,6 +1,6 @@
 //! The generators give what their names say, and the same on every machine.
 
-use engine::{book_len, draw, event, panel_len, read_book, run};
+use engine::{book_len, draw, event, in_range, panel_len, read_book, run};
 use gen::{
     book, book_bytes, coherent, damaged_book, damaged_sheet, junk_event, mixed, plant, quick_site,
     sheet_bytes, sheet_events, site, spoilt_plant, BookDamage, Coverage, Rng, SheetDamage, Spoil,
@@ -78,7 +78,7 @@ fn damaged_books_are_refused() {
 fn plants_are_in_range() {
     let mut rng = Rng::new(3);
     for _ in 0..5000 {
-        assert!(plant(&mut rng).in_range());
+        assert!(in_range(&plant(&mut rng)));
     }
 }
 
