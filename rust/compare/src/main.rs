@@ -10,10 +10,12 @@ use compare::engines::{Plain, Planted};
 use compare::print::{files, is_fresh, text};
 use compare::search::{from_fresh, reduce, search, search_fixed, Difference, Outcome};
 use compare::second::Proved;
+use compare::stack::Stack;
 use compare::Engine;
 use gen::Coverage;
 use options::{Options, USAGE};
 use std::process::ExitCode;
+use std::thread;
 use std::time::{Duration, Instant};
 
 fn main() -> ExitCode {
@@ -24,11 +26,40 @@ fn main() -> ExitCode {
             return ExitCode::from(2);
         }
     };
-    match options.fault {
+    match (options.fault, options.stack) {
         _ if options.self_test => self_test::self_test(&options),
-        Some(fault) => compare(&options, &Planted(fault)),
-        None => compare(&options, &Proved),
+        (Some(fault), _) => compare(&options, &Planted(fault)),
+        (_, Some(bytes)) => compare_on_stack(options, bytes),
+        _ => compare(&options, &Proved::default()),
     }
+}
+
+/// Stack for the comparison itself.
+const OWN_STACK: usize = 1 << 20;
+
+/// Compares on a thread, with at most so many bytes of its stack below each call of the proved
+/// engine. The frame that calls counts among them; it holds the plant and the answer.
+fn compare_on_stack(options: Options, bytes: usize) -> ExitCode {
+    let work = move || {
+        let stack = Stack::last(bytes)?;
+        let proved = Proved { stack: Some(stack) };
+        let code = compare(&options, &proved);
+        if let Some((least, most)) = proved.stack.map(|stack| stack.left()) {
+            println!("stack left for a call of the proved engine: {least} to {most} bytes");
+        }
+        Ok::<ExitCode, String>(code)
+    };
+    let thread = thread::Builder::new().name("comparison".into());
+    let thread = thread.stack_size(bytes.saturating_add(OWN_STACK));
+    let result = match thread.spawn(work).map(|thread| thread.join()) {
+        Ok(Ok(result)) => result,
+        Ok(Err(_)) => Err("the comparison panicked".into()),
+        Err(error) => Err(error.to_string()),
+    };
+    result.unwrap_or_else(|refusal| {
+        eprintln!("--stack {bytes}: {refusal}");
+        ExitCode::FAILURE
+    })
 }
 
 fn compare(options: &Options, second: &dyn Engine) -> ExitCode {
@@ -55,7 +86,9 @@ fn compare(options: &Options, second: &dyn Engine) -> ExitCode {
         let due = since.elapsed().as_secs() / 5;
         if due > shown {
             shown = due;
-            progress(5 * due, cases, seen);
+            let mut seen = seen.clone();
+            seen.add(&fixed);
+            progress(5 * due, cases, &seen);
         }
     });
     outcome.seen.add(&fixed);

@@ -6,7 +6,7 @@ use std::str::FromStr;
 use std::time::Duration;
 
 pub const USAGE: &str = "compare [--seconds N] [--cases N] [--seed N] [--first N] [--sessions] \
-                         [--out DIR] [--fault NAME | --self-test]";
+                         [--out DIR] [--fault NAME | --stack BYTES | --self-test]";
 const SECONDS: u64 = 120;
 
 #[derive(Default)]
@@ -16,6 +16,7 @@ pub struct Options {
     pub seed: u64,
     first: u64,
     pub fault: Option<&'static Fault>,
+    pub stack: Option<usize>,
     pub out: Option<String>,
     sessions: bool,
     pub self_test: bool,
@@ -46,10 +47,16 @@ impl Options {
                 "--cases" => options.cases = Some(number(&arg, args.next())?),
                 "--seed" => options.seed = number(&arg, args.next())?,
                 "--first" => options.first = number(&arg, args.next())?,
+                "--stack" => options.stack = Some(number(&arg, args.next())?),
                 "--fault" => options.fault = Some(named(args.next())?),
                 "--out" => options.out = Some(args.next().ok_or("--out: a folder is missing")?),
                 _ => return Err(format!("{arg}: no such option")),
             }
+        }
+        let kinds = [options.fault.is_some(), options.stack.is_some()];
+        let kinds = kinds.iter().chain([&options.self_test]);
+        if kinds.filter(|given| **given).count() > 1 {
+            return Err("--fault, --stack, --self-test: one of them at most".into());
         }
         Ok(options)
     }

@@ -4,9 +4,10 @@ use crate::options::Options;
 use compare::search::{find_fault, smallest, Found, Plan};
 use faults::{Fault, FAULTS};
 use std::process::ExitCode;
+use std::time::Instant;
 
 const CASES: u64 = 40_000;
-const SESSIONS: u64 = 1_000;
+const SESSIONS: u64 = 200;
 
 /// How a fault was found, in words as wide as any.
 fn cell(fault: &'static Fault, found: &Option<Found>) -> String {
@@ -15,7 +16,11 @@ fn cell(fault: &'static Fault, found: &Option<Found>) -> String {
     };
     let ms = f.time.as_secs_f64() * 1e3;
     let events = smallest(fault, f);
-    format!("{:>5} cases {ms:>7.1} ms {events:>4} events", f.cases)
+    let among = match f.difference.index {
+        Some(_) => "cases",
+        None => "fixed",
+    };
+    format!("{:>6} {among} {ms:>6.1} ms {events:>4} events", f.cases)
 }
 
 /// One fault: found or not, over all cases and over sessions alone.
@@ -31,9 +36,11 @@ fn line(fault: &'static Fault, options: &Options) -> bool {
 }
 
 pub fn self_test(options: &Options) -> ExitCode {
+    let since = Instant::now();
     println!("{:<31} {:>35}  |  {:>35}", "fault", "all cases", "sessions");
     let found = FAULTS.iter().filter(|f| line(f, options)).count();
-    println!("{found} of {} faults found", FAULTS.len());
+    let seconds = since.elapsed().as_secs_f64();
+    println!("{found} of {} faults found in {seconds:.1} s", FAULTS.len());
     match found == FAULTS.len() {
         true => ExitCode::SUCCESS,
         false => ExitCode::FAILURE,

@@ -4,10 +4,16 @@ use super::types::{boom, phase, Crossing, Entry};
 
 const LONGEST_OUT: u16 = 901;
 
+/// A hold is on.
+#[inline]
+pub fn is_held(record: &Crossing) -> bool {
+    record.kiosk | record.operator != 0
+}
+
 /// Some track is calling or a hold is on.
 #[inline]
 pub fn has_reason(record: &Crossing) -> bool {
-    record.calling != [0; 4] || record.kiosk || record.operator
+    record.calling != [0; 4] || is_held(record)
 }
 
 /// Booms that the crossing lacks are held as up.
@@ -34,7 +40,7 @@ pub fn is_secured(record: &Crossing, entry: &Entry) -> bool {
         2 => record.booms[..2].iter().all(|b| *b != boom::UP),
         _ => booms_down(record, entry),
     };
-    record.phase == phase::ALL_DOWN && record.lamps[1] && closed
+    record.phase == phase::ALL_DOWN && record.lamps[1] != 0 && closed
 }
 
 #[inline]

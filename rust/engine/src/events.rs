@@ -1,6 +1,6 @@
 //! Events: four bytes of code, crossing, place, value.
 
-use super::crossing::{count_down, count_out, run_timer, settle};
+use super::crossing::{count_down, count_out, is_held, run_timer, settle};
 use super::range::in_range;
 use super::types::{number, Crossing, Entry, Plant};
 
@@ -94,22 +94,21 @@ fn take(record: &mut Crossing, entry: &Entry, code: u8, place: u8, value: u8) ->
     if value >= values {
         return Err(number::UNKNOWN_VALUE);
     }
-    let on = value == 1;
     let place = usize::from(place);
     match code {
         code::STRIKE_IN => strike_in(record, entry, place)?,
         code::PASSAGE => passage(record, place)?,
-        code::KIOSK_HOLD => record.kiosk = on,
-        code::OPERATOR_HOLD => operator_hold(record, on)?,
-        code::ROUTE => set_route(record, entry, place, on)?,
-        code::APPROACH => record.occupied[place] = on,
+        code::KIOSK_HOLD => record.kiosk = value,
+        code::OPERATOR_HOLD => operator_hold(record, value)?,
+        code::ROUTE => set_route(record, entry, place, value)?,
+        code::APPROACH => record.occupied[place] = value,
         code::TIME_RELEASE => time_release(record)?,
         code::BOOM_REPORT => record.booms[place] = value,
-        _ => record.lamps[place] = on,
+        _ => record.lamps[place] = value,
     }
     let cancels = match code {
         code::STRIKE_IN => true,
-        code::KIOSK_HOLD | code::OPERATOR_HOLD | code::ROUTE | code::APPROACH => on,
+        code::KIOSK_HOLD | code::OPERATOR_HOLD | code::ROUTE | code::APPROACH => value == 1,
         _ => false,
     };
     if cancels {
@@ -122,7 +121,7 @@ fn strike_in(record: &mut Crossing, entry: &Entry, track: usize) -> Result<(), u
     if u16::from(record.calling[track]) + u16::from(record.waiting[track]) >= FULL {
         return Err(number::FULL_TRACK);
     }
-    if !entry.depends(track) || record.route[track] {
+    if !entry.depends(track) || record.route[track] != 0 {
         record.calling[track] += 1;
     } else {
         record.waiting[track] += 1;
@@ -141,20 +140,20 @@ fn passage(record: &mut Crossing, track: usize) -> Result<(), u8> {
     Ok(())
 }
 
-fn operator_hold(record: &mut Crossing, on: bool) -> Result<(), u8> {
-    if !on && record.calling != [0; 4] {
+fn operator_hold(record: &mut Crossing, on: u8) -> Result<(), u8> {
+    if on == 0 && record.calling != [0; 4] {
         return Err(number::TRAIN_CALLING);
     }
     record.operator = on;
     Ok(())
 }
 
-fn set_route(record: &mut Crossing, entry: &Entry, track: usize, on: bool) -> Result<(), u8> {
+fn set_route(record: &mut Crossing, entry: &Entry, track: usize, on: u8) -> Result<(), u8> {
     if !entry.depends(track) {
         return Err(number::PLAIN_TRACK);
     }
     record.route[track] = on;
-    if on {
+    if on != 0 {
         record.calling[track] += record.waiting[track];
         record.waiting[track] = 0;
     }
@@ -162,8 +161,7 @@ fn set_route(record: &mut Crossing, entry: &Entry, track: usize, on: bool) -> Re
 }
 
 fn time_release(record: &mut Crossing) -> Result<(), u8> {
-    let hold = record.kiosk || record.operator;
-    if hold || record.route != [false; 4] || record.occupied != [false; 4] {
+    if is_held(record) || record.route != [0; 4] || record.occupied != [0; 4] {
         return Err(number::NOT_CLEAR);
     }
     record.countdown = RELEASE;

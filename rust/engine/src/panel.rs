@@ -40,8 +40,8 @@ pub fn paint(plant: &Plant, panel: &mut [u8]) {
 }
 
 /// The shown aspect, or 0 where its lamp is dead.
-fn aspect(whole: bool, shown: u8) -> u8 {
-    if whole {
+fn aspect(whole: u8, shown: u8) -> u8 {
+    if whole != 0 {
         shown
     } else {
         0
@@ -84,7 +84,7 @@ fn panel_of(record: &Crossing, entry: &Entry, beat: u8) -> [u8; PANEL] {
         if secured { released(record, entry) } else { 0 },
         u8::from(normal) | u8::from(secured) << 1 | u8::from(long_out) << 2,
         record.phase,
-        u8::from(record.kiosk) | u8::from(record.operator) << 1,
+        record.kiosk | record.operator << 1,
         calling[0],
         calling[1],
         waiting[0],
@@ -99,7 +99,7 @@ fn lit(record: &Crossing, normal: bool, road: u8, boom_lamps: bool, train: u8, b
         true => beat == 0,
         false => beat == 0 || beat == 2,
     };
-    if !flash && record.lamps[4] {
+    if !flash && record.lamps[4] != 0 {
         return 0;
     }
     let mut lit = DISTANT;
@@ -117,6 +117,6 @@ fn lit(record: &Crossing, normal: bool, road: u8, boom_lamps: bool, train: u8, b
 
 /// The dependent tracks with their route set.
 fn released(record: &Crossing, entry: &Entry) -> u8 {
-    let tracks = (0..4).filter(|t| entry.depends(*t) && record.route[*t]);
+    let tracks = (0..4).filter(|t| entry.depends(*t) && record.route[*t] != 0);
     tracks.map(|t| 1 << t).sum()
 }

@@ -32,16 +32,11 @@ pub fn entries_in_range(site: &Site) -> bool {
     used.iter().all(entry_in_range) && past.iter().all(|entry| *entry == Entry::ZERO)
 }
 
-fn tracks_in_range(record: &Crossing, entry: &Entry) -> bool {
-    (0..4).all(|t| {
-        let trains = u16::from(record.calling[t]) + u16::from(record.waiting[t]);
-        let on_route = record.waiting[t] != 0 || record.route[t];
-        if t < usize::from(entry.tracks) {
-            trains <= MAX_TRAINS && (entry.depends(t) || !on_route)
-        } else {
-            trains == 0 && !on_route && !record.occupied[t]
-        }
-    })
+fn track_in_range(record: &Crossing, entry: &Entry, t: usize) -> bool {
+    let trains = u16::from(record.calling[t]) + u16::from(record.waiting[t]);
+    let free = record.calling[t] == 0 && record.occupied[t] == 0;
+    let plain = record.waiting[t] == 0 && record.route[t] == 0;
+    trains <= MAX_TRAINS && (t < entry.tracks.into() || free) && (entry.depends(t) || plain)
 }
 
 fn booms_in_range(record: &Crossing, entry: &Entry) -> bool {
@@ -59,12 +54,22 @@ fn phase_in_range(record: &Crossing, entry: &Entry) -> bool {
     }
 }
 
+/// Every flag 0 or 1.
+fn flags_in_range(record: &Crossing) -> bool {
+    let are = |flags: &[u8]| flags.iter().all(|flag| *flag <= 1);
+    are(&record.route)
+        && are(&record.occupied)
+        && are(&record.lamps)
+        && are(&[record.kiosk, record.operator])
+}
+
 fn record_in_range(record: &Crossing, entry: &Entry) -> bool {
     record.countdown <= MAX_COUNTDOWN
         && record.out <= MAX_OUT
+        && flags_in_range(record)
         && phase_in_range(record, entry)
         && booms_in_range(record, entry)
-        && tracks_in_range(record, entry)
+        && (0..4).all(|t| track_in_range(record, entry, t))
 }
 
 /// Every held number, settings included, inside its range.
