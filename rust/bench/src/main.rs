@@ -37,7 +37,7 @@ fn ratios(sheet: &Sheet, rounds: usize) -> Option<(f64, f64)> {
     for _ in 0..rounds {
         let (expected, time) = timed(&Plain, sheet);
         plain.push(time);
-        let (output, time) = timed(&Proved, sheet);
+        let (output, time) = timed(&Proved::default(), sheet);
         proved.push(time);
         if output != expected {
             return None;

@@ -1,9 +1,10 @@
 //! One input for both engines, and how it is made.
 
-use engine::{book_len, panel_len, Plant, Site, MAX_EVENTS};
+use engine::{book_len, in_range, panel_len, Plant, Site, MAX_EVENTS};
 use gen::{
-    all_lengths, book, coherent, damaged_book, damaged_sheet, event, event_grid, frame, junk_event,
-    mixed, plant, quick_site, sheet_bytes, site, spoilt_plant, BookDamage, Rng, SheetDamage, Spoil,
+    all_lengths, book, coherent, damaged_book, damaged_sheet, event, event_grid, every_flag, frame,
+    junk_event, mixed, plant, quick_site, sheet_bytes, site, spoilt_plant, BookDamage, Rng,
+    SheetDamage, Spoil,
 };
 
 /// An input; frames hold the bytes lent.
@@ -55,19 +56,18 @@ impl Case {
         session_case(&mut Rng::of_case(seed, index))
     }
 
-    /// The cases that do not depend on a seed: books and frames of every length, and a
-    /// grid of events on a few plants.
-    pub fn fixed() -> Vec<Case> {
-        let books = all_lengths().into_iter();
-        let mut cases: Vec<Case> = books.map(|book| Case::Read { book }).collect();
+    /// The cases that do not depend on a seed: books of every length, a grid of events and
+    /// frames of every length on a few plants, and every value of every flag.
+    pub fn fixed() -> impl Iterator<Item = Case> {
+        let books = all_lengths().into_iter().map(|book| Case::Read { book });
         let rng = &mut Rng::new(0);
-        for _ in 0..12 {
-            let plant = plant(rng);
-            let grid = event_grid().into_iter();
-            cases.extend(grid.map(|event| Case::Event { plant, event }));
-            cases.extend(all_frames(&plant));
-        }
-        cases
+        let plants = [(); 12].map(|_| plant(rng)).into_iter();
+        let grids = plants.flat_map(|plant| {
+            let events = event_grid().into_iter();
+            let events = events.map(move |event| Case::Event { plant, event });
+            events.chain(all_frames(&plant))
+        });
+        books.chain(grids).chain(every_flag().flat_map(calls))
     }
 
     pub fn name(&self) -> &'static str {
@@ -102,6 +102,22 @@ fn all_frames(plant: &Plant) -> Vec<Case> {
         });
     }
     cases
+}
+
+/// A tick, a panel and a sheet of one tick.
+fn calls(plant: Plant) -> [Case; 3] {
+    let event = [0; 4];
+    let frame = vec![0xa5; panel_len(plant.site.n)];
+    let run = Case::Run {
+        plant,
+        sheet: sheet_bytes(&[event]),
+        frame: frame.clone(),
+    };
+    [
+        Case::Event { plant, event },
+        Case::Draw { plant, frame },
+        run,
+    ]
 }
 
 fn read_case(rng: &mut Rng) -> Case {
@@ -159,7 +175,7 @@ fn run_case(rng: &mut Rng) -> Case {
     let spoilt = rng.once_in(8);
     let plant = if spoilt { any_plant(rng) } else { plant(rng) };
     let len = rng.within(0..=40) as usize;
-    let events = match plant.in_range() && rng.flag() {
+    let events = match in_range(&plant) && rng.flag() {
         true => coherent(rng, &plant, len),
         false => mixed(rng, &plant, len),
     };

@@ -17,6 +17,9 @@ pub struct Pair<'a> {
 /// What differs, in words.
 pub type Check = Result<(), String>;
 
+/// What each engine is lent for a panel.
+type Frames = [Vec<u8>; 2];
+
 impl Pair<'_> {
     /// Compares every answer, plant and lent byte of a case; counts what the first did.
     pub fn check(&self, case: &Case, seen: &mut Coverage) -> Check {
@@ -24,15 +27,21 @@ impl Pair<'_> {
             Case::Read { book } => self.read(book, seen),
             Case::Write { site, frame } => self.write(site, frame, seen),
             Case::Event { plant, event } => {
-                let mut plant = *plant;
-                self.event(&mut plant, *event, seen)
+                seen.flags(Call::Event, plant);
+                self.event(&mut plant.clone(), *event, seen).map(|_| ())
             }
-            Case::Draw { plant, frame } => self.draw(plant, &mut frame.clone(), seen),
+            Case::Draw { plant, frame } => {
+                seen.flags(Call::Draw, plant);
+                self.lent(plant, frame, seen)
+            }
             Case::Run {
                 plant,
                 sheet,
                 frame,
-            } => self.run(plant, sheet, frame, seen),
+            } => {
+                seen.flags(Call::Run, plant);
+                self.run(plant, sheet, frame, seen)
+            }
             Case::Session { site, events } => self.session(site, events, seen),
         }
     }
@@ -73,8 +82,8 @@ impl Pair<'_> {
         Ok(())
     }
 
-    /// One event; `plant` becomes the plant after it.
-    fn event(&self, plant: &mut Plant, e: [u8; 4], seen: &mut Coverage) -> Check {
+    /// One event; `plant` becomes the plant after it. Gives the number.
+    fn event(&self, plant: &mut Plant, e: [u8; 4], seen: &mut Coverage) -> Result<u8, String> {
         let before = *plant;
         let mut other_plant = before;
         let answer = self.first.event(plant, e);
@@ -84,22 +93,31 @@ impl Pair<'_> {
         if answer.0 != 0 {
             same_plant(&before, &other_plant)?;
         }
-        same_plant(plant, &other_plant)
+        same_plant(plant, &other_plant)?;
+        Ok(answer.0)
     }
 
-    /// One panel, into `frame`.
-    fn draw(&self, plant: &Plant, frame: &mut [u8], seen: &mut Coverage) -> Check {
-        let lent = frame.to_vec();
-        let mut other_frame = lent.clone();
+    /// One panel into a frame for each engine, both with the same bytes; gives the number.
+    fn draw(&self, plant: &Plant, frames: &mut Frames, seen: &mut Coverage) -> Result<u8, String> {
+        let [frame, other_frame] = frames;
         let number = self.first.draw(plant, frame);
-        let other = self.second.draw(plant, &mut other_frame);
+        let other = self.second.draw(plant, other_frame);
         seen.call(Call::Draw, number);
         same("number of a panel", &number, &other)?;
-        match number {
-            0 => seen.panel(plant, frame),
-            _ => same_bytes("panel of a refused call", &lent, &other_frame)?,
+        if number == 0 {
+            seen.panel(plant, frame);
         }
-        same_bytes("panel", frame, &other_frame)
+        same_bytes("panel", frame, other_frame)?;
+        Ok(number)
+    }
+
+    /// One panel into a frame as it was lent.
+    fn lent(&self, plant: &Plant, frame: &[u8], seen: &mut Coverage) -> Check {
+        let mut frames = [frame.to_vec(), frame.to_vec()];
+        match self.draw(plant, &mut frames, seen)? {
+            0 => Ok(()),
+            _ => same_bytes("panel of a refused call", frame, &frames[1]),
+        }
     }
 
     /// One run.
@@ -122,12 +140,16 @@ impl Pair<'_> {
         let book = book_bytes(site);
         self.read(&book, seen)?;
         let (_, mut plant) = self.first.read_book(&book);
-        let mut panel = vec![0xc3; panel_len(site.n)];
-        self.run(&plant, &sheet_bytes(events), &panel, seen)?;
-        self.draw(&plant, &mut panel, seen)?;
+        let lent = vec![0xc3; panel_len(site.n)];
+        self.run(&plant, &sheet_bytes(events), &lent, seen)?;
+        let mut frames = [lent.clone(), lent];
+        self.draw(&plant, &mut frames, seen)?;
         for (i, e) in events.iter().enumerate() {
-            let step = self.event(&mut plant, *e, seen);
-            let step = step.and_then(|_| self.draw(&plant, &mut panel, seen));
+            let step = match self.event(&mut plant, *e, seen) {
+                // A refused event leaves the plant, whose panel was drawn before.
+                Ok(0) => self.draw(&plant, &mut frames, seen),
+                other => other,
+            };
             step.map_err(|what| format!("event {i}: {what}"))?;
         }
         for engine in [self.first, self.second] {

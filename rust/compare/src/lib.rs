@@ -1,5 +1,6 @@
 //! Compares two crossing engines over generated inputs.
 
+mod candidates;
 pub mod case;
 pub mod chart;
 pub mod check;
@@ -8,6 +9,7 @@ pub mod print;
 pub mod search;
 pub mod second;
 pub mod shrink;
+pub mod stack;
 
 pub use engine::{Plant, Run, Site};
 

@@ -1,102 +1,65 @@
-//! Compares the plain engine with a second one.
-//!
-//! compare [--seconds N] [--cases N] [--seed N] [--first N] [--sessions] [--out DIR]
-//!         [--fault N | --self-test]
+//! Compares the plain engine with the proved one, or with a planted fault.
+
+mod options;
+mod self_test;
 
 use compare::case::Case;
 use compare::chart;
 use compare::check::Pair;
 use compare::engines::{Plain, Planted};
 use compare::print::{files, is_fresh, text};
-use compare::search::{
-    find_fault, from_fresh, reduce, search, search_fixed, smallest, Difference, Found, Outcome,
-    Plan,
-};
-use compare::second::second;
+use compare::search::{from_fresh, reduce, search, search_fixed, Difference, Outcome};
+use compare::second::Proved;
+use compare::stack::Stack;
 use compare::Engine;
-use engine::faulty::{Fault, FAULTS};
 use gen::Coverage;
+use options::{Options, USAGE};
 use std::process::ExitCode;
+use std::thread;
 use std::time::{Duration, Instant};
 
-const USAGE: &str = "compare [--seconds N] [--cases N] [--seed N] [--first N] [--sessions] \
-                     [--out DIR] [--fault N | --self-test]";
-const SECONDS: u64 = 120;
-const SELF_TEST_CASES: u64 = 40_000;
-const SELF_TEST_SESSIONS: u64 = 1_000;
-
-#[derive(Default)]
-struct Options {
-    seconds: Option<u64>,
-    cases: Option<u64>,
-    seed: u64,
-    first: u64,
-    fault: Option<u32>,
-    out: Option<String>,
-    sessions: bool,
-    self_test: bool,
-}
-
-fn options() -> Option<Options> {
-    let mut options = Options {
-        seed: 1,
-        ..Options::default()
-    };
-    let mut args = std::env::args().skip(1);
-    while let Some(arg) = args.next() {
-        match arg.as_str() {
-            "--self-test" => options.self_test = true,
-            "--sessions" => options.sessions = true,
-            "--seconds" => options.seconds = Some(args.next()?.parse().ok()?),
-            "--cases" => options.cases = Some(args.next()?.parse().ok()?),
-            "--seed" => options.seed = args.next()?.parse().ok()?,
-            "--first" => options.first = args.next()?.parse().ok()?,
-            "--fault" => options.fault = Some(args.next()?.parse().ok()?),
-            "--out" => options.out = Some(args.next()?),
-            _ => return None,
-        }
-    }
-    Some(options)
-}
-
-impl Options {
-    /// Two minutes, unless told otherwise.
-    fn plan(&self) -> Plan {
-        let seconds = match (self.seconds, self.cases) {
-            (None, None) => Some(SECONDS),
-            (seconds, _) => seconds,
-        };
-        Plan {
-            seed: self.seed,
-            first: self.first,
-            cases: self.cases,
-            time: seconds.map(Duration::from_secs),
-            sessions: self.sessions,
-        }
-    }
-
-    /// All kinds of cases from the first on: then everything must be reached.
-    fn is_whole(&self) -> bool {
-        !self.sessions && self.first == 0
-    }
-
-    fn engine(&self) -> Option<Box<dyn Engine>> {
-        match self.fault {
-            Some(number) => Some(Box::new(Planted::numbered(number)?)),
-            None => Some(second()),
-        }
-    }
-}
-
 fn main() -> ExitCode {
-    let Some((options, engine)) = options().and_then(|o| o.engine().map(|e| (o, e))) else {
-        eprintln!("{USAGE}");
-        return ExitCode::from(2);
+    let options = match Options::read(std::env::args().skip(1)) {
+        Ok(options) => options,
+        Err(refusal) => {
+            eprintln!("{refusal}\n{USAGE}");
+            return ExitCode::from(2);
+        }
     };
-    if options.self_test {
-        return self_test(&options);
+    match (options.fault, options.stack) {
+        _ if options.self_test => self_test::self_test(&options),
+        (Some(fault), _) => compare(&options, &Planted(fault)),
+        (_, Some(bytes)) => compare_on_stack(options, bytes),
+        _ => compare(&options, &Proved::default()),
     }
-    compare(&options, engine.as_ref())
+}
+
+/// Stack for the comparison itself.
+const OWN_STACK: usize = 1 << 20;
+
+/// Compares on a thread, with at most so many bytes of its stack below each call of the proved
+/// engine. The frame that calls counts among them; it holds the plant and the answer.
+fn compare_on_stack(options: Options, bytes: usize) -> ExitCode {
+    let work = move || {
+        let stack = Stack::last(bytes)?;
+        let proved = Proved { stack: Some(stack) };
+        let code = compare(&options, &proved);
+        if let Some((least, most)) = proved.stack.map(|stack| stack.left()) {
+            println!("stack left for a call of the proved engine: {least} to {most} bytes");
+        }
+        Ok::<ExitCode, String>(code)
+    };
+    let thread = thread::Builder::new().name("comparison".into());
+    let thread = thread.stack_size(bytes.saturating_add(OWN_STACK));
+    let result = match thread.spawn(work).map(|thread| thread.join()) {
+        Ok(Ok(result)) => result,
+        Ok(Err(_)) => Err("the comparison panicked".into()),
+        Err(error) => Err(error.to_string()),
+    };
+    result.unwrap_or_else(|refusal| {
+        eprintln!("--stack {bytes}: {refusal}");
+        ExitCode::FAILURE
+    })
 }
 
 fn compare(options: &Options, second: &dyn Engine) -> ExitCode {
@@ -123,7 +86,9 @@ fn compare(options: &Options, second: &dyn Engine) -> ExitCode {
         let due = since.elapsed().as_secs() / 5;
         if due > shown {
             shown = due;
-            progress(5 * due, cases, seen);
+            let mut seen = seen.clone();
+            seen.add(&fixed);
+            progress(5 * due, cases, &seen);
         }
     });
     outcome.seen.add(&fixed);
@@ -208,36 +173,5 @@ fn write_files(dir: &str, case: &Case) {
         if let Some(Err(error)) = bytes.map(|bytes| std::fs::write(&path, bytes)) {
             eprintln!("{}: {error}", path.display());
         }
-    }
-}
-
-/// One fault: found or not, over all cases and over sessions alone.
-fn self_test_line(fault: &Fault, options: &Options) -> bool {
-    let mut plan = Plan::of_cases(options.seed, options.cases.unwrap_or(SELF_TEST_CASES));
-    let any = find_fault(fault, plan);
-    plan.sessions = true;
-    plan.cases = Some(SELF_TEST_SESSIONS);
-    let fresh = find_fault(fault, plan);
-    let cell = |found: &Option<Found>| match found {
-        Some(f) => {
-            let ms = f.time.as_secs_f64() * 1e3;
-            let events = smallest(fault, f);
-            format!("{:>5} cases {ms:>7.1} ms {events:>4} events", f.cases)
-        }
-        None => format!("{:>35}", "-"),
-    };
-    let (a, b) = (cell(&any), cell(&fresh));
-    println!("{:>5}  {a}  |  {b}  {}", fault.number, fault.text);
-    any.is_some()
-}
-
-fn self_test(options: &Options) -> ExitCode {
-    println!("{:>5}  {:>35}  |  {:>35}", "fault", "all cases", "sessions");
-    let found = FAULTS.iter().filter(|f| self_test_line(f, options)).count();
-    println!("{found} of {} faults found", FAULTS.len());
-    if found == FAULTS.len() {
-        ExitCode::SUCCESS
-    } else {
-        ExitCode::FAILURE
     }
 }

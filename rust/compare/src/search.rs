@@ -6,12 +6,13 @@ use crate::engines::Planted;
 use crate::print::event_count;
 use crate::second::Proved;
 use crate::shrink::shrink;
-use engine::faulty::Fault;
+use faults::Fault;
 use gen::Coverage;
 use std::time::{Duration, Instant};
 
-/// Events put to the engines while one difference is made small.
-const SHRINK_EVENTS: usize = 3_000_000;
+/// Events put to the engines while one difference is made small, to be shown or to be counted.
+const SHOWN: usize = 3_000_000;
+const COUNTED: usize = 200_000;
 
 /// Which cases, where to begin and when to end.
 #[derive(Clone, Copy)]
@@ -68,12 +69,13 @@ impl Plan {
 /// Compares over the fixed cases.
 pub fn search_fixed(pair: Pair) -> Outcome {
     let mut seen = Coverage::new();
-    let cases = Case::fixed();
-    let count = cases.len() as u64;
-    let mut cases = cases.into_iter();
-    let differs = cases.find(|case| pair.check(case, &mut seen).is_err());
+    let mut cases = 0;
+    let differs = Case::fixed().find(|case| {
+        cases += 1;
+        pair.check(case, &mut seen).is_err()
+    });
     Outcome {
-        cases: count,
+        cases,
         seen,
         difference: differs.map(|case| Difference { index: None, case }),
     }
@@ -107,8 +109,11 @@ pub fn search(pair: Pair, plan: Plan, progress: &mut dyn FnMut(u64, &Coverage)) 
 
 /// The smallest case found that still differs, and what differs in it.
 pub fn reduce(pair: Pair, case: Case) -> (Case, String) {
+    reduce_within(SHOWN, pair, case)
+}
+
+fn reduce_within(mut left: usize, pair: Pair, case: Case) -> (Case, String) {
     let mut unseen = Coverage::new();
-    let mut left = SHRINK_EVENTS;
     let case = shrink(case, &mut |c| {
         let cost = 50 + event_count(c);
         let affordable = left >= cost;
@@ -136,31 +141,36 @@ pub fn from_fresh(pair: Pair, seed: u64) -> Option<(Case, String)> {
 pub struct Found {
     pub cases: u64,
     pub time: Duration,
-    pub case: Case,
+    pub difference: Difference,
 }
 
-/// Looks for a fault planted in the plain engine, against the proved one.
-pub fn find_fault(fault: &Fault, plan: Plan) -> Option<Found> {
-    let planted = Planted::fault(fault);
+/// Looks for a fault planted in the plain engine, against the proved one. What the plan's
+/// cases do not show, the fixed ones may, unless only sessions are wished.
+pub fn find_fault(fault: &'static Fault, plan: Plan) -> Option<Found> {
+    let planted = Planted(fault);
     let pair = Pair {
         first: &planted,
-        second: &Proved,
+        second: &Proved::default(),
     };
     let since = Instant::now();
-    let outcome = search(pair, plan, &mut |_, _| {});
+    let mut outcome = search(pair, plan, &mut |_, _| {});
+    if outcome.difference.is_none() && !plan.sessions {
+        outcome = search_fixed(pair);
+    }
     Some(Found {
         cases: outcome.cases,
         time: since.elapsed(),
-        case: outcome.difference?.case,
+        difference: outcome.difference?,
     })
 }
 
 /// How many events the smallest case found for a planted fault has.
-pub fn smallest(fault: &Fault, found: &Found) -> usize {
-    let planted = Planted::fault(fault);
+pub fn smallest(fault: &'static Fault, found: &Found) -> usize {
+    let planted = Planted(fault);
     let pair = Pair {
         first: &planted,
-        second: &Proved,
+        second: &Proved::default(),
     };
-    event_count(&reduce(pair, found.case.clone()).0)
+    let case = found.difference.case.clone();
+    event_count(&reduce_within(COUNTED, pair, case).0)
 }

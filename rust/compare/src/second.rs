@@ -1,10 +1,23 @@
 //! The proved engine, which the plain one is compared with.
 
+use crate::stack::Stack;
 use crate::Engine;
 use engine::{Crossing, Entry, Plant, Run, Site};
 
-/// The proved engine.
-pub struct Proved;
+/// The proved engine, on the thread's whole stack or on the last bytes of it.
+#[derive(Default)]
+pub struct Proved {
+    pub stack: Option<Stack>,
+}
+
+impl Proved {
+    fn call<T>(&self, work: impl FnOnce() -> T) -> T {
+        match &self.stack {
+            Some(stack) => stack.call(work),
+            None => work(),
+        }
+    }
+}
 
 impl Engine for Proved {
     fn name(&self) -> String {
@@ -12,12 +25,13 @@ impl Engine for Proved {
     }
 
     fn read_book(&self, book: &[u8]) -> (u8, Plant) {
-        let reading = wilzhoram::read(book);
+        let reading = self.call(|| wilzhoram::read(book));
         (reading.number, plain_plant(&reading.plant))
     }
 
     fn write_book(&self, site: &Site, out: &mut [u8]) -> u8 {
-        wilzhoram::write(proved_site(site), out)
+        let site = proved_site(site);
+        self.call(|| wilzhoram::write(site, out))
     }
 
     fn event(&self, plant: &mut Plant, [code, crossing, place, value]: [u8; 4]) -> (u8, u32) {
@@ -27,17 +41,20 @@ impl Engine for Proved {
             place,
             value,
         };
-        let answer = wilzhoram::event(proved_plant(plant), event);
+        let before = proved_plant(plant);
+        let answer = self.call(|| wilzhoram::event(before, event));
         *plant = plain_plant(&answer.plant);
         (answer.number, answer.written)
     }
 
     fn draw(&self, plant: &Plant, panel: &mut [u8]) -> u8 {
-        wilzhoram::draw(proved_plant(plant), panel)
+        let plant = proved_plant(plant);
+        self.call(|| wilzhoram::draw(plant, panel))
     }
 
     fn run(&self, plant: &mut Plant, sheet: &[u8], panel: &mut [u8]) -> Run {
-        let run = wilzhoram::run(proved_plant(plant), sheet, panel);
+        let before = proved_plant(plant);
+        let run = self.call(|| wilzhoram::run(before, sheet, panel));
         *plant = plain_plant(&run.plant);
         Run {
             number: run.number,
@@ -46,11 +63,6 @@ impl Engine for Proved {
             written_off: run.written,
         }
     }
-}
-
-/// The engine that the plain one is compared with.
-pub fn second() -> Box<dyn Engine> {
-    Box::new(Proved)
 }
 
 /// The same fields in the other engine's type.

@@ -1,10 +1,13 @@
 //! The comparison finds every planted fault, and nothing where none is planted.
 
+use compare::case::Case;
 use compare::check::Pair;
 use compare::engines::{Plain, Planted};
 use compare::print::text;
 use compare::search::{find_fault, search, search_fixed, Plan};
-use engine::faulty::FAULTS;
+use compare::second::Proved;
+use faults::FAULTS;
+use gen::{flags, Coverage};
 
 const CASES: u64 = 10_000;
 const SESSIONS: u64 = 400;
@@ -12,14 +15,40 @@ const SESSIONS: u64 = 400;
 /// Faults that no list of events from a fresh plant can show: in the lent frames, in the
 /// order of refusals of a book, in spoilt plants, and a repeated hold, since a hold stands
 /// in the way of a running countdown.
-const NOT_FROM_FRESH: [u32; 11] = [1, 2, 3, 4, 6, 7, 8, 9, 21, 50, 51];
+const NOT_FROM_FRESH: [&str; 16] = [
+    "book_any_gap",
+    "book_frame_first",
+    "book_length_first",
+    "book_past_n",
+    "countdown_repeated_hold",
+    "panel_draw_refused",
+    "range_flags",
+    "range_flags_lamps",
+    "range_flags_one_byte",
+    "range_flags_past_n",
+    "range_flags_signed",
+    "range_lacking_boom",
+    "range_lamps_past_n",
+    "range_out",
+    "range_waiting_plain",
+    "sheet_frame_first",
+];
+
+/// Faults that no plant shows whose flags are all 0 or 1.
+const ONLY_BY_FLAGS: [&str; 5] = [
+    "range_flags",
+    "range_flags_lamps",
+    "range_flags_one_byte",
+    "range_flags_past_n",
+    "range_flags_signed",
+];
 
 #[test]
 fn every_planted_fault_is_found() {
     for seed in [1, 2] {
         let plan = Plan::of_cases(seed, CASES);
         let missed = FAULTS.iter().filter(|f| find_fault(f, plan).is_none());
-        let missed: Vec<&str> = missed.map(|f| f.text).collect();
+        let missed: Vec<&str> = missed.map(|f| f.name).collect();
         assert!(missed.is_empty(), "seed {seed}: not found {missed:?}");
     }
 }
@@ -31,29 +60,58 @@ fn sessions_alone_find_what_shows_from_fresh() {
         ..Plan::of_cases(4, SESSIONS)
     };
     let missed = FAULTS.iter().filter(|f| find_fault(f, plan).is_none());
-    let missed: Vec<u32> = missed.map(|f| f.number).collect();
+    let missed: Vec<&str> = missed.map(|f| f.name).collect();
     assert_eq!(missed, NOT_FROM_FRESH);
+}
+
+/// Whether a case hands over a flag that is neither 0 nor 1.
+fn has_wide_flag(case: &Case) -> bool {
+    let (Case::Event { plant, .. } | Case::Draw { plant, .. } | Case::Run { plant, .. }) = case
+    else {
+        return false;
+    };
+    plant.crossings.iter().any(|c| flags(c).any(|f| *f > 1))
+}
+
+#[test]
+fn some_faults_show_by_flags_above_1_only() {
+    let cases = (0..CASES).map(|index| Case::make(1, index));
+    let cases: Vec<Case> = cases.chain(Case::fixed()).collect();
+    let (wide, others): (Vec<Case>, Vec<Case>) = cases.into_iter().partition(has_wide_flag);
+    let unseen = &mut Coverage::new();
+    let only = FAULTS.iter().filter(|fault| {
+        let pair = Pair {
+            first: &Planted(fault),
+            second: &Proved::default(),
+        };
+        let mut differs = |case: &Case| pair.check(case, unseen).is_err();
+        !others.iter().any(&mut differs) && wide.iter().any(differs)
+    });
+    let only: Vec<&str> = only.map(|fault| fault.name).collect();
+    assert_eq!(only, ONLY_BY_FLAGS);
 }
 
 #[test]
 fn without_a_fault_nothing_differs_and_all_is_reached() {
     let pair = Pair {
         first: &Plain,
-        second: &Planted::none(),
+        second: &Proved::default(),
     };
-    assert!(search_fixed(pair).difference.is_none());
-    let outcome = search(pair, Plan::of_cases(3, CASES), &mut |_, _| {});
+    let fixed = search_fixed(pair);
+    assert!(fixed.difference.is_none());
+    let mut outcome = search(pair, Plan::of_cases(3, CASES), &mut |_, _| {});
     if let Some(difference) = outcome.difference {
         panic!("{}", text(&difference.case));
     }
+    outcome.seen.add(&fixed.seen);
     let missing = outcome.seen.missing();
     assert!(missing.is_empty(), "{missing:?}");
 }
 
 #[test]
 fn differences_are_made_small() {
-    let of = |text: &str| FAULTS.iter().find(|f| f.text.contains(text)).unwrap();
-    let planted = Planted::fault(of("gives back only calling"));
+    let fault = FAULTS.iter().find(|f| f.name == "release_end_only_calling");
+    let planted = Planted(fault.unwrap());
     let pair = Pair {
         first: &Plain,
         second: &planted,
@@ -69,10 +127,10 @@ fn differences_are_made_small() {
     let mut events = vec![[0; 4]; 40];
     events.extend([[1, 1, 0, 0], [3, 0, 0, 1], [7, 1, 0, 0], [9, 2, 0, 0]]);
     events.extend([[0; 4]; 300]);
-    let case = compare::case::Case::Session { site, events };
-    let mut unseen = gen::Coverage::new();
+    let case = Case::Session { site, events };
+    let mut unseen = Coverage::new();
     let small = compare::shrink::shrink(case, &mut |c| pair.check(c, &mut unseen).is_err());
-    let compare::case::Case::Session { site, events } = small else {
+    let Case::Session { site, events } = small else {
         panic!("another case");
     };
     assert_eq!((site.n, events.len()), (1, 272));

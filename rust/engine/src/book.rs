@@ -1,6 +1,7 @@
 //! The site book: its size, n entries of kind, tracks, mask, then n entries of F, G.
 
-use crate::types::{number, Entry, Plant, Site};
+use super::range::{entries_in_range, has_count};
+use super::types::{number, Entry, Plant, Site};
 
 /// Bytes of a book of `n` crossings.
 pub fn book_len(n: u8) -> usize {
@@ -18,7 +19,7 @@ pub fn read_book(book: &[u8]) -> (u8, Plant) {
 fn read_site(book: &[u8]) -> Result<Site, u8> {
     let (&n, arrays) = book.split_first().ok_or(number::TORN_BOOK)?;
     let mut site = Site { n, ..Site::ZERO };
-    if !site.has_count() {
+    if !has_count(&site) {
         return Err(number::OVER_LONG);
     }
     if book.len() != book_len(n) {
@@ -35,7 +36,7 @@ fn read_site(book: &[u8]) -> Result<Site, u8> {
             gap: u16::from_le_bytes([time[2], time[3]]),
         };
     }
-    if site.entries_in_range() {
+    if entries_in_range(&site) {
         Ok(site)
     } else {
         Err(number::WRONG_SETTING)
@@ -44,10 +45,10 @@ fn read_site(book: &[u8]) -> Result<Site, u8> {
 
 /// Writes the book of `site` into a lent output of exactly its length.
 pub fn write_book(site: &Site, out: &mut [u8]) -> u8 {
-    if !site.has_count() {
+    if !has_count(site) {
         return number::OVER_LONG;
     }
-    if !site.entries_in_range() {
+    if !entries_in_range(site) {
         return number::WRONG_SETTING;
     }
     if out.len() != book_len(site.n) {

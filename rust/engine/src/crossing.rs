@@ -1,108 +1,112 @@
 //! One crossing: what follows from its record, and how it settles.
 
-use crate::types::{boom, phase, Crossing, Entry};
+use super::types::{boom, phase, Crossing, Entry};
 
 const LONGEST_OUT: u16 = 901;
 
-impl Crossing {
-    /// Some track is calling or a hold is on.
-    #[inline]
-    pub(crate) fn has_reason(&self) -> bool {
-        self.calling != [0; 4] || self.kiosk || self.operator
-    }
+/// A hold is on.
+#[inline]
+pub fn is_held(record: &Crossing) -> bool {
+    record.kiosk | record.operator != 0
+}
 
-    /// Booms that the crossing lacks are held as up.
-    #[inline]
-    pub(crate) fn booms_up(&self) -> bool {
-        self.booms == [boom::UP; 4]
-    }
+/// Some track is calling or a hold is on.
+#[inline]
+pub fn has_reason(record: &Crossing) -> bool {
+    record.calling != [0; 4] || is_held(record)
+}
 
-    /// Open, with every boom last reported up.
-    #[inline]
-    pub(crate) fn is_normal(&self) -> bool {
-        self.phase == phase::OPEN && self.booms_up()
-    }
+/// Booms that the crossing lacks are held as up.
+#[inline]
+pub fn booms_up(record: &Crossing) -> bool {
+    record.booms == [boom::UP; 4]
+}
 
-    /// Every boom of this kind last reported down; also true where there is none.
-    pub(crate) fn booms_down(&self, entry: &Entry) -> bool {
-        let booms = &self.booms[..entry.booms().into()];
-        booms.iter().all(|b| *b == boom::DOWN)
-    }
+/// Open, with every boom last reported up.
+#[inline]
+pub fn is_normal(record: &Crossing) -> bool {
+    record.phase == phase::OPEN && booms_up(record)
+}
 
-    /// All ordered down, road red whole, booms as the kind demands.
-    pub(crate) fn is_secured(&self, entry: &Entry) -> bool {
-        let closed = match entry.kind {
-            2 => self.booms[..2].iter().all(|b| *b != boom::UP),
-            _ => self.booms_down(entry),
-        };
-        self.phase == phase::ALL_DOWN && self.lamps[1] && closed
-    }
+/// Every boom of this kind last reported down; also true where there is none.
+pub fn booms_down(record: &Crossing, entry: &Entry) -> bool {
+    let booms = &record.booms[..entry.booms().into()];
+    booms.iter().all(|b| *b == boom::DOWN)
+}
 
-    #[inline]
-    fn go(&mut self, phase: u8, timer: u16) {
-        self.phase = phase;
-        self.timer = timer;
-    }
+/// All ordered down, road red whole, booms as the kind demands.
+pub fn is_secured(record: &Crossing, entry: &Entry) -> bool {
+    let closed = match entry.kind {
+        2 => record.booms[..2].iter().all(|b| *b != boom::UP),
+        _ => booms_down(record, entry),
+    };
+    record.phase == phase::ALL_DOWN && record.lamps[1] != 0 && closed
+}
 
-    /// Lowers a running countdown; at its end clears all trains and gives their number.
-    #[inline]
-    pub(crate) fn count_down(&mut self) -> u32 {
-        if self.countdown == 0 {
-            return 0;
-        }
-        self.countdown -= 1;
-        if self.countdown != 0 {
-            return 0;
-        }
-        let trains = self.calling.iter().chain(&self.waiting);
-        let written_off = trains.map(|t| u32::from(*t)).sum();
-        self.calling = [0; 4];
-        self.waiting = [0; 4];
-        written_off
-    }
+#[inline]
+fn go(record: &mut Crossing, phase: u8, timer: u16) {
+    record.phase = phase;
+    record.timer = timer;
+}
 
-    /// Lowers a running timer; at its end the next booms are ordered down.
-    #[inline]
-    pub(crate) fn run_timer(&mut self, entry: &Entry) {
-        if self.timer == 0 {
-            return;
-        }
-        self.timer -= 1;
-        if self.timer == 0 {
-            if self.phase == phase::WARNING && entry.kind == 4 {
-                self.go(phase::RIGHT_DOWN, entry.gap);
-            } else {
-                self.go(phase::ALL_DOWN, 0);
-            }
-        }
+/// Lowers a running countdown; at its end clears all trains and gives their number.
+#[inline]
+pub fn count_down(record: &mut Crossing) -> u32 {
+    if record.countdown == 0 {
+        return 0;
     }
+    record.countdown -= 1;
+    if record.countdown != 0 {
+        return 0;
+    }
+    let trains = record.calling.iter().chain(&record.waiting);
+    let written_off = trains.map(|t| u32::from(*t)).sum();
+    record.calling = [0; 4];
+    record.waiting = [0; 4];
+    written_off
+}
 
-    /// One step by the phase on entry.
-    #[inline]
-    pub(crate) fn settle(&mut self, entry: &Entry) {
-        let reason = self.has_reason();
-        match self.phase {
-            phase::OPEN if reason => self.go(phase::WARNING, entry.pre),
-            phase::WARNING if !reason => self.go(phase::OPEN, 0),
-            phase::RIGHT_DOWN | phase::ALL_DOWN if !reason => match entry.kind {
-                1 => self.go(phase::OPEN, 0),
-                _ => self.go(phase::RAISING, 0),
-            },
-            phase::RAISING if self.booms_up() => match reason {
-                true => self.go(phase::WARNING, entry.pre),
-                false => self.go(phase::OPEN, 0),
-            },
-            _ => {}
+/// Lowers a running timer; at its end the next booms are ordered down.
+#[inline]
+pub fn run_timer(record: &mut Crossing, entry: &Entry) {
+    if record.timer == 0 {
+        return;
+    }
+    record.timer -= 1;
+    if record.timer == 0 {
+        if record.phase == phase::WARNING && entry.kind == 4 {
+            go(record, phase::RIGHT_DOWN, entry.gap);
+        } else {
+            go(record, phase::ALL_DOWN, 0);
         }
     }
+}
 
-    /// After settling: normal position ends the count out of normal, a tick adds to it.
-    #[inline]
-    pub(crate) fn count_out(&mut self, tick: bool) {
-        if self.is_normal() {
-            self.out = 0;
-        } else if tick && self.out < LONGEST_OUT {
-            self.out += 1;
-        }
+/// One step by the phase on entry.
+#[inline]
+pub fn settle(record: &mut Crossing, entry: &Entry) {
+    let reason = has_reason(record);
+    match record.phase {
+        phase::OPEN if reason => go(record, phase::WARNING, entry.pre),
+        phase::WARNING if !reason => go(record, phase::OPEN, 0),
+        phase::RIGHT_DOWN | phase::ALL_DOWN if !reason => match entry.kind {
+            1 => go(record, phase::OPEN, 0),
+            _ => go(record, phase::RAISING, 0),
+        },
+        phase::RAISING if booms_up(record) => match reason {
+            true => go(record, phase::WARNING, entry.pre),
+            false => go(record, phase::OPEN, 0),
+        },
+        _ => {}
+    }
+}
+
+/// After settling: normal position ends the count out of normal, a tick adds to it.
+#[inline]
+pub fn count_out(record: &mut Crossing, tick: bool) {
+    if is_normal(record) {
+        record.out = 0;
+    } else if tick && record.out < LONGEST_OUT {
+        record.out += 1;
     }
 }

@@ -1,6 +1,8 @@
 //! Events: four bytes of code, crossing, place, value.
 
-use crate::types::{number, Crossing, Entry, Plant};
+use super::crossing::{count_down, count_out, is_held, run_timer, settle};
+use super::range::in_range;
+use super::types::{number, Crossing, Entry, Plant};
 
 const RELEASE: u16 = 270;
 const FULL: u16 = 255;
@@ -21,7 +23,7 @@ pub mod code {
 
 /// Takes or refuses one event; gives the number and the trains written off.
 pub fn event(plant: &mut Plant, event: [u8; 4]) -> (u8, u32) {
-    if !plant.in_range() {
+    if !in_range(plant) {
         return (number::SPOILT_PLANT, 0);
     }
     match apply(plant, event) {
@@ -32,7 +34,7 @@ pub fn event(plant: &mut Plant, event: [u8; 4]) -> (u8, u32) {
 
 /// One event on a plant known to be in range.
 #[inline]
-pub(crate) fn apply(plant: &mut Plant, event: [u8; 4]) -> Result<u32, u8> {
+pub fn apply(plant: &mut Plant, event: [u8; 4]) -> Result<u32, u8> {
     let [code, crossing, place, value] = event;
     if code == code::TICK {
         return match (crossing, place, value) {
@@ -50,9 +52,9 @@ pub(crate) fn apply(plant: &mut Plant, event: [u8; 4]) -> Result<u32, u8> {
     }
     let entry = &plant.site.entries[usize::from(crossing)];
     let record = &mut plant.crossings[usize::from(crossing)];
-    record.take(entry, code, place, value)?;
-    record.settle(entry);
-    record.count_out(false);
+    take(record, entry, code, place, value)?;
+    settle(record, entry);
+    count_out(record, false);
     Ok(0)
 }
 
@@ -61,10 +63,10 @@ fn tick(plant: &mut Plant) -> u32 {
     let n = usize::from(plant.site.n);
     let mut written_off = 0;
     for (record, entry) in plant.crossings[..n].iter_mut().zip(&plant.site.entries) {
-        written_off += record.count_down();
-        record.run_timer(entry);
-        record.settle(entry);
-        record.count_out(true);
+        written_off += count_down(record);
+        run_timer(record, entry);
+        settle(record, entry);
+        count_out(record, true);
     }
     written_off
 }
@@ -82,90 +84,86 @@ fn limits(entry: &Entry, code: u8) -> (u8, u8) {
     }
 }
 
-impl Crossing {
-    /// Everything an event other than a tick does before the crossing settles.
-    #[inline]
-    fn take(&mut self, entry: &Entry, code: u8, place: u8, value: u8) -> Result<(), u8> {
-        let (places, values) = limits(entry, code);
-        if place >= places {
-            return Err(number::UNKNOWN_PLACE);
-        }
-        if value >= values {
-            return Err(number::UNKNOWN_VALUE);
-        }
-        let on = value == 1;
-        let place = usize::from(place);
-        match code {
-            code::STRIKE_IN => self.strike_in(entry, place)?,
-            code::PASSAGE => self.passage(place)?,
-            code::KIOSK_HOLD => self.kiosk = on,
-            code::OPERATOR_HOLD => self.operator_hold(on)?,
-            code::ROUTE => self.set_route(entry, place, on)?,
-            code::APPROACH => self.occupied[place] = on,
-            code::TIME_RELEASE => self.time_release()?,
-            code::BOOM_REPORT => self.booms[place] = value,
-            _ => self.lamps[place] = on,
-        }
-        let cancels = match code {
-            code::STRIKE_IN => true,
-            code::KIOSK_HOLD | code::OPERATOR_HOLD | code::ROUTE | code::APPROACH => on,
-            _ => false,
-        };
-        if cancels {
-            self.countdown = 0;
-        }
-        Ok(())
+/// Everything an event other than a tick does before the crossing settles.
+#[inline]
+fn take(record: &mut Crossing, entry: &Entry, code: u8, place: u8, value: u8) -> Result<(), u8> {
+    let (places, values) = limits(entry, code);
+    if place >= places {
+        return Err(number::UNKNOWN_PLACE);
     }
+    if value >= values {
+        return Err(number::UNKNOWN_VALUE);
+    }
+    let place = usize::from(place);
+    match code {
+        code::STRIKE_IN => strike_in(record, entry, place)?,
+        code::PASSAGE => passage(record, place)?,
+        code::KIOSK_HOLD => record.kiosk = value,
+        code::OPERATOR_HOLD => operator_hold(record, value)?,
+        code::ROUTE => set_route(record, entry, place, value)?,
+        code::APPROACH => record.occupied[place] = value,
+        code::TIME_RELEASE => time_release(record)?,
+        code::BOOM_REPORT => record.booms[place] = value,
+        _ => record.lamps[place] = value,
+    }
+    let cancels = match code {
+        code::STRIKE_IN => true,
+        code::KIOSK_HOLD | code::OPERATOR_HOLD | code::ROUTE | code::APPROACH => value == 1,
+        _ => false,
+    };
+    if cancels {
+        record.countdown = 0;
+    }
+    Ok(())
+}
 
-    fn strike_in(&mut self, entry: &Entry, track: usize) -> Result<(), u8> {
-        if u16::from(self.calling[track]) + u16::from(self.waiting[track]) >= FULL {
-            return Err(number::FULL_TRACK);
-        }
-        if !entry.depends(track) || self.route[track] {
-            self.calling[track] += 1;
-        } else {
-            self.waiting[track] += 1;
-        }
-        Ok(())
+fn strike_in(record: &mut Crossing, entry: &Entry, track: usize) -> Result<(), u8> {
+    if u16::from(record.calling[track]) + u16::from(record.waiting[track]) >= FULL {
+        return Err(number::FULL_TRACK);
     }
+    if !entry.depends(track) || record.route[track] != 0 {
+        record.calling[track] += 1;
+    } else {
+        record.waiting[track] += 1;
+    }
+    Ok(())
+}
 
-    fn passage(&mut self, track: usize) -> Result<(), u8> {
-        if self.calling[track] > 0 {
-            self.calling[track] -= 1;
-        } else if self.waiting[track] > 0 {
-            self.waiting[track] -= 1;
-        } else {
-            return Err(number::GHOST_PASSAGE);
-        }
-        Ok(())
+fn passage(record: &mut Crossing, track: usize) -> Result<(), u8> {
+    if record.calling[track] > 0 {
+        record.calling[track] -= 1;
+    } else if record.waiting[track] > 0 {
+        record.waiting[track] -= 1;
+    } else {
+        return Err(number::GHOST_PASSAGE);
     }
+    Ok(())
+}
 
-    fn operator_hold(&mut self, on: bool) -> Result<(), u8> {
-        if !on && self.calling != [0; 4] {
-            return Err(number::TRAIN_CALLING);
-        }
-        self.operator = on;
-        Ok(())
+fn operator_hold(record: &mut Crossing, on: u8) -> Result<(), u8> {
+    if on == 0 && record.calling != [0; 4] {
+        return Err(number::TRAIN_CALLING);
     }
+    record.operator = on;
+    Ok(())
+}
 
-    fn set_route(&mut self, entry: &Entry, track: usize, on: bool) -> Result<(), u8> {
-        if !entry.depends(track) {
-            return Err(number::PLAIN_TRACK);
-        }
-        self.route[track] = on;
-        if on {
-            self.calling[track] += self.waiting[track];
-            self.waiting[track] = 0;
-        }
-        Ok(())
+fn set_route(record: &mut Crossing, entry: &Entry, track: usize, on: u8) -> Result<(), u8> {
+    if !entry.depends(track) {
+        return Err(number::PLAIN_TRACK);
     }
+    record.route[track] = on;
+    if on != 0 {
+        record.calling[track] += record.waiting[track];
+        record.waiting[track] = 0;
+    }
+    Ok(())
+}
 
-    fn time_release(&mut self) -> Result<(), u8> {
-        let hold = self.kiosk || self.operator;
-        if hold || self.route != [false; 4] || self.occupied != [false; 4] {
-            return Err(number::NOT_CLEAR);
-        }
-        self.countdown = RELEASE;
-        Ok(())
+fn time_release(record: &mut Crossing) -> Result<(), u8> {
+    if is_held(record) || record.route != [0; 4] || record.occupied != [0; 4] {
+        return Err(number::NOT_CLEAR);
     }
+    record.countdown = RELEASE;
+    Ok(())
 }

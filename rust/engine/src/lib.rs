@@ -3,19 +3,19 @@
 //! Every call answers with one number: 0 when taken, otherwise a refusal from
 //! [`number`]. A refused call changes neither the plant nor a lent output.
 
-mod book;
-mod crossing;
-mod events;
-pub mod faulty;
-mod panel;
+pub mod book;
+pub mod crossing;
+pub mod events;
+pub mod panel;
 mod program;
-mod range;
-mod sheet;
-mod types;
+pub mod range;
+pub mod sheet;
+pub mod types;
 
 pub use book::{book_len, read_book, write_book};
 pub use events::{code, event};
 pub use panel::{draw, panel_len, PANEL};
 pub use program::program;
-pub use sheet::{run, sheet_parts, Run};
-pub use types::{boom, number, phase, Crossing, Entry, Plant, Site, MAX_EVENTS};
+pub use range::in_range;
+pub use sheet::{run, sheet_parts};
+pub use types::{boom, number, phase, Crossing, Entry, Plant, Run, Site, MAX_EVENTS};

@@ -1,6 +1,8 @@
 //! The panel: sixteen bytes per crossing.
 
-use crate::types::{number, phase, Crossing, Entry, Plant};
+use super::crossing::{booms_down, is_normal, is_secured};
+use super::range::in_range;
+use super::types::{number, phase, Crossing, Entry, Plant};
 
 /// Panel bytes per crossing.
 pub const PANEL: usize = 16;
@@ -19,7 +21,7 @@ pub fn panel_len(n: u8) -> usize {
 
 /// Draws the panel into a lent output of exactly its length.
 pub fn draw(plant: &Plant, panel: &mut [u8]) -> u8 {
-    if !plant.in_range() {
+    if !in_range(plant) {
         return number::SPOILT_PLANT;
     }
     if panel.len() != panel_len(plant.site.n) {
@@ -30,16 +32,16 @@ pub fn draw(plant: &Plant, panel: &mut [u8]) -> u8 {
 }
 
 /// Draws a plant known to be in range into a panel of the right length.
-pub(crate) fn paint(plant: &Plant, panel: &mut [u8]) {
+pub fn paint(plant: &Plant, panel: &mut [u8]) {
     let records = plant.crossings.iter().zip(&plant.site.entries);
     for (bytes, (record, entry)) in panel.chunks_exact_mut(PANEL).zip(records) {
-        bytes.copy_from_slice(&record.panel(entry, plant.beat));
+        bytes.copy_from_slice(&panel_of(record, entry, plant.beat));
     }
 }
 
 /// The shown aspect, or 0 where its lamp is dead.
-fn aspect(whole: bool, shown: u8) -> u8 {
-    if whole {
+fn aspect(whole: u8, shown: u8) -> u8 {
+    if whole != 0 {
         shown
     } else {
         0
@@ -51,72 +53,70 @@ fn total(trains: &[u8; 4]) -> [u8; 2] {
     sum.to_le_bytes()
 }
 
-impl Crossing {
-    fn panel(&self, entry: &Entry, beat: u8) -> [u8; PANEL] {
-        let normal = self.is_normal();
-        let secured = self.is_secured(entry);
-        let has_booms = entry.booms() > 0;
-        let road = match normal {
-            true => aspect(self.lamps[0], 1),
-            false => aspect(self.lamps[1], 2),
-        };
-        let train = match secured {
-            true => aspect(self.lamps[3], 2),
-            false => aspect(self.lamps[2], 1),
-        };
-        let boom_lamps = !normal && has_booms;
-        let bell = !normal && (!has_booms || !self.booms_down(entry));
-        let right = has_booms && matches!(self.phase, phase::RIGHT_DOWN | phase::ALL_DOWN);
-        let left = entry.kind == 4 && self.phase == phase::ALL_DOWN;
-        let long_out = self.out > LONG_OUT;
-        let calling = total(&self.calling);
-        let waiting = total(&self.waiting);
-        [
-            road,
-            self.lit(normal, road, boom_lamps, train, beat),
-            bell.into(),
-            boom_lamps.into(),
-            right.into(),
-            left.into(),
-            train,
-            if train == 2 { 2 } else { 1 },
-            if secured { self.released(entry) } else { 0 },
-            u8::from(normal) | u8::from(secured) << 1 | u8::from(long_out) << 2,
-            self.phase,
-            u8::from(self.kiosk) | u8::from(self.operator) << 1,
-            calling[0],
-            calling[1],
-            waiting[0],
-            waiting[1],
-        ]
-    }
+fn panel_of(record: &Crossing, entry: &Entry, beat: u8) -> [u8; PANEL] {
+    let normal = is_normal(record);
+    let secured = is_secured(record, entry);
+    let has_booms = entry.booms() > 0;
+    let road = match normal {
+        true => aspect(record.lamps[0], 1),
+        false => aspect(record.lamps[1], 2),
+    };
+    let train = match secured {
+        true => aspect(record.lamps[3], 2),
+        false => aspect(record.lamps[2], 1),
+    };
+    let boom_lamps = !normal && has_booms;
+    let bell = !normal && (!has_booms || !booms_down(record, entry));
+    let right = has_booms && matches!(record.phase, phase::RIGHT_DOWN | phase::ALL_DOWN);
+    let left = entry.kind == 4 && record.phase == phase::ALL_DOWN;
+    let long_out = record.out > LONG_OUT;
+    let calling = total(&record.calling);
+    let waiting = total(&record.waiting);
+    [
+        road,
+        lit(record, normal, road, boom_lamps, train, beat),
+        bell.into(),
+        boom_lamps.into(),
+        right.into(),
+        left.into(),
+        train,
+        if train == 2 { 2 } else { 1 },
+        if secured { released(record, entry) } else { 0 },
+        u8::from(normal) | u8::from(secured) << 1 | u8::from(long_out) << 2,
+        record.phase,
+        record.kiosk | record.operator << 1,
+        calling[0],
+        calling[1],
+        waiting[0],
+        waiting[1],
+    ]
+}
 
-    /// The signals lit in this beat: slow in normal position, fast out of it, steady
-    /// with the flasher dead. The distant signal is never dark.
-    fn lit(&self, normal: bool, road: u8, boom_lamps: bool, train: u8, beat: u8) -> u8 {
-        let flash = match normal {
-            true => beat == 0,
-            false => beat == 0 || beat == 2,
-        };
-        if !flash && self.lamps[4] {
-            return 0;
-        }
-        let mut lit = DISTANT;
-        if road != 0 {
-            lit |= ROAD;
-        }
-        if boom_lamps {
-            lit |= BOOM_LAMPS;
-        }
-        if train != 0 {
-            lit |= TRAIN;
-        }
-        lit
+/// The signals lit in this beat: slow in normal position, fast out of it, steady
+/// with the flasher dead. The distant signal is never dark.
+fn lit(record: &Crossing, normal: bool, road: u8, boom_lamps: bool, train: u8, beat: u8) -> u8 {
+    let flash = match normal {
+        true => beat == 0,
+        false => beat == 0 || beat == 2,
+    };
+    if !flash && record.lamps[4] != 0 {
+        return 0;
     }
+    let mut lit = DISTANT;
+    if road != 0 {
+        lit |= ROAD;
+    }
+    if boom_lamps {
+        lit |= BOOM_LAMPS;
+    }
+    if train != 0 {
+        lit |= TRAIN;
+    }
+    lit
+}
 
-    /// The dependent tracks with their route set.
-    fn released(&self, entry: &Entry) -> u8 {
-        let tracks = (0..4).filter(|t| entry.depends(*t) && self.route[*t]);
-        tracks.map(|t| 1 << t).sum()
-    }
+/// The dependent tracks with their route set.
+fn released(record: &Crossing, entry: &Entry) -> u8 {
+    let tracks = (0..4).filter(|t| entry.depends(*t) && record.route[*t] != 0);
+    tracks.map(|t| 1 << t).sum()
 }

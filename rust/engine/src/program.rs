@@ -1,9 +1,9 @@
 //! What the program prints for the bytes of site.bin and sheet.bin.
 
-use crate::book::read_book;
-use crate::panel::{panel_len, PANEL};
-use crate::sheet::run;
-use crate::types::number;
+use super::book::read_book;
+use super::panel::{panel_len, PANEL};
+use super::sheet::run;
+use super::types::number;
 use std::fmt::Write;
 
 /// Runs a sheet from the fresh plant of a book and gives the printed text.

@@ -1,6 +1,6 @@
 //! The ranges of the settings and of everything the plant holds.
 
-use crate::types::{boom, phase, Crossing, Entry, Plant, Site};
+use super::types::{boom, phase, Crossing, Entry, Plant, Site};
 
 const MAX_PRE: u16 = 180;
 const MAX_GAP: u16 = 90;
@@ -8,82 +8,78 @@ const MAX_COUNTDOWN: u16 = 270;
 const MAX_OUT: u16 = 901;
 const MAX_TRAINS: u16 = 255;
 
-impl Entry {
-    /// Every setting inside its range.
-    pub(crate) fn in_range(&self) -> bool {
-        let gap = match self.kind {
-            4 => (1..=MAX_GAP).contains(&self.gap),
-            _ => self.gap == 0,
-        };
-        (1..=4).contains(&self.kind)
-            && (1..=4).contains(&self.tracks)
-            && self.mask >> self.tracks == 0
-            && (1..=MAX_PRE).contains(&self.pre)
-            && gap
+/// Every setting inside its range.
+fn entry_in_range(entry: &Entry) -> bool {
+    let gap = match entry.kind {
+        4 => (1..=MAX_GAP).contains(&entry.gap),
+        _ => entry.gap == 0,
+    };
+    (1..=4).contains(&entry.kind)
+        && (1..=4).contains(&entry.tracks)
+        && entry.mask >> entry.tracks == 0
+        && (1..=MAX_PRE).contains(&entry.pre)
+        && gap
+}
+
+/// Between 1 and 8 crossings.
+pub fn has_count(site: &Site) -> bool {
+    (1..=8).contains(&site.n)
+}
+
+/// With a good count: the first n entries in range, the others zero.
+pub fn entries_in_range(site: &Site) -> bool {
+    let (used, past) = site.entries.split_at(site.n.into());
+    used.iter().all(entry_in_range) && past.iter().all(|entry| *entry == Entry::ZERO)
+}
+
+fn track_in_range(record: &Crossing, entry: &Entry, t: usize) -> bool {
+    let trains = u16::from(record.calling[t]) + u16::from(record.waiting[t]);
+    let free = record.calling[t] == 0 && record.occupied[t] == 0;
+    let plain = record.waiting[t] == 0 && record.route[t] == 0;
+    trains <= MAX_TRAINS && (t < entry.tracks.into() || free) && (entry.depends(t) || plain)
+}
+
+fn booms_in_range(record: &Crossing, entry: &Entry) -> bool {
+    let (used, past) = record.booms.split_at(entry.booms().into());
+    used.iter().all(|b| *b <= boom::DOWN) && past.iter().all(|b| *b == 0)
+}
+
+fn phase_in_range(record: &Crossing, entry: &Entry) -> bool {
+    match record.phase {
+        phase::OPEN | phase::ALL_DOWN => record.timer == 0,
+        phase::WARNING => (1..=entry.pre).contains(&record.timer),
+        phase::RIGHT_DOWN => entry.kind == 4 && (1..=entry.gap).contains(&record.timer),
+        phase::RAISING => entry.kind != 1 && record.timer == 0,
+        _ => false,
     }
 }
 
-impl Site {
-    /// Between 1 and 8 crossings.
-    pub(crate) fn has_count(&self) -> bool {
-        (1..=8).contains(&self.n)
-    }
-
-    /// With a good count: the first n entries in range, the others zero.
-    pub(crate) fn entries_in_range(&self) -> bool {
-        let (used, past) = self.entries.split_at(self.n.into());
-        used.iter().all(Entry::in_range) && past.iter().all(|entry| *entry == Entry::ZERO)
-    }
+/// Every flag 0 or 1.
+fn flags_in_range(record: &Crossing) -> bool {
+    let are = |flags: &[u8]| flags.iter().all(|flag| *flag <= 1);
+    are(&record.route)
+        && are(&record.occupied)
+        && are(&record.lamps)
+        && are(&[record.kiosk, record.operator])
 }
 
-impl Crossing {
-    fn tracks_in_range(&self, entry: &Entry) -> bool {
-        (0..4).all(|t| {
-            let trains = u16::from(self.calling[t]) + u16::from(self.waiting[t]);
-            let on_route = self.waiting[t] != 0 || self.route[t];
-            if t < usize::from(entry.tracks) {
-                trains <= MAX_TRAINS && (entry.depends(t) || !on_route)
-            } else {
-                trains == 0 && !on_route && !self.occupied[t]
-            }
-        })
-    }
-
-    fn booms_in_range(&self, entry: &Entry) -> bool {
-        let (used, past) = self.booms.split_at(entry.booms().into());
-        used.iter().all(|b| *b <= boom::DOWN) && past.iter().all(|b| *b == 0)
-    }
-
-    fn phase_in_range(&self, entry: &Entry) -> bool {
-        match self.phase {
-            phase::OPEN | phase::ALL_DOWN => self.timer == 0,
-            phase::WARNING => (1..=entry.pre).contains(&self.timer),
-            phase::RIGHT_DOWN => entry.kind == 4 && (1..=entry.gap).contains(&self.timer),
-            phase::RAISING => entry.kind != 1 && self.timer == 0,
-            _ => false,
-        }
-    }
-
-    fn in_range(&self, entry: &Entry) -> bool {
-        self.countdown <= MAX_COUNTDOWN
-            && self.out <= MAX_OUT
-            && self.phase_in_range(entry)
-            && self.booms_in_range(entry)
-            && self.tracks_in_range(entry)
-    }
+fn record_in_range(record: &Crossing, entry: &Entry) -> bool {
+    record.countdown <= MAX_COUNTDOWN
+        && record.out <= MAX_OUT
+        && flags_in_range(record)
+        && phase_in_range(record, entry)
+        && booms_in_range(record, entry)
+        && (0..4).all(|t| track_in_range(record, entry, t))
 }
 
-impl Plant {
-    /// Every held number, settings included, inside its range.
-    pub fn in_range(&self) -> bool {
-        if !self.site.has_count() || !self.site.entries_in_range() || self.beat > 3 {
-            return false;
-        }
-        let n = usize::from(self.site.n);
-        let (used, past) = self.crossings.split_at(n);
-        used.iter()
-            .zip(&self.site.entries)
-            .all(|(crossing, entry)| crossing.in_range(entry))
-            && past.iter().all(|crossing| *crossing == Crossing::ZERO)
+/// Every held number, settings included, inside its range.
+pub fn in_range(plant: &Plant) -> bool {
+    if !has_count(&plant.site) || !entries_in_range(&plant.site) || plant.beat > 3 {
+        return false;
     }
+    let (used, past) = plant.crossings.split_at(plant.site.n.into());
+    used.iter()
+        .zip(&plant.site.entries)
+        .all(|(record, entry)| record_in_range(record, entry))
+        && past.iter().all(|record| *record == Crossing::ZERO)
 }

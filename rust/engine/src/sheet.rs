@@ -1,29 +1,9 @@
 //! The event sheet: its size m, m codes, then m triples of crossing, place, value.
 
-use crate::events::apply;
-use crate::panel::{paint, panel_len};
-use crate::types::{number, Plant, MAX_EVENTS};
-
-/// The answer of a run.
-#[repr(C)]
-#[derive(Clone, Copy, PartialEq, Debug)]
-pub struct Run {
-    pub number: u8,
-    pub taken: u32,
-    pub refused: u32,
-    pub written_off: u32,
-}
-
-impl Run {
-    fn answer(number: u8) -> Run {
-        Run {
-            number,
-            taken: 0,
-            refused: 0,
-            written_off: 0,
-        }
-    }
-}
+use super::events::apply;
+use super::panel::{paint, panel_len};
+use super::range::in_range;
+use super::types::{number, Plant, Run, MAX_EVENTS};
 
 /// The codes and the triples of a sheet.
 pub fn sheet_parts(sheet: &[u8]) -> Result<(&[u8], &[u8]), u8> {
@@ -42,7 +22,7 @@ pub fn sheet_parts(sheet: &[u8]) -> Result<(&[u8], &[u8]), u8> {
 
 /// Applies each event of a sheet in turn and draws the panel.
 pub fn run(plant: &mut Plant, sheet: &[u8], panel: &mut [u8]) -> Run {
-    if !plant.in_range() {
+    if !in_range(plant) {
         return Run::answer(number::SPOILT_PLANT);
     }
     let (codes, triples) = match sheet_parts(sheet) {

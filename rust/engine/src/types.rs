@@ -101,7 +101,7 @@ impl Site {
     };
 }
 
-/// What the plant holds for one crossing.
+/// What the plant holds for one crossing. A flag is a byte: 0 no, 1 yes, no other in range.
 #[repr(C)]
 #[derive(Clone, Copy, PartialEq, Debug)]
 pub struct Crossing {
@@ -109,16 +109,19 @@ pub struct Crossing {
     pub calling: [u8; 4],
     /// Trains that wait for a route, per dependent track.
     pub waiting: [u8; 4],
-    /// Route set, per dependent track.
-    pub route: [bool; 4],
-    /// Approach occupied, per track.
-    pub occupied: [bool; 4],
+    /// Route set, a flag per dependent track.
+    pub route: [u8; 4],
+    /// Approach occupied, a flag per track.
+    pub occupied: [u8; 4],
     /// Last boom reports: 0 and 1 right of the road, 2 and 3 left.
     pub booms: [u8; 4],
-    /// Last lamp reports: road white, road red, train red, train white, flasher.
-    pub lamps: [bool; 5],
-    pub kiosk: bool,
-    pub operator: bool,
+    /// Lamp last reported whole, a flag each: road white, road red, train red, train white,
+    /// flasher.
+    pub lamps: [u8; 5],
+    /// Kiosk hold on, a flag.
+    pub kiosk: u8,
+    /// Operator hold on, a flag.
+    pub operator: u8,
     /// Ticks left of a time release, 0 to 270.
     pub countdown: u16,
     pub phase: u8,
@@ -131,12 +134,12 @@ impl Crossing {
     pub const ZERO: Crossing = Crossing {
         calling: [0; 4],
         waiting: [0; 4],
-        route: [false; 4],
-        occupied: [false; 4],
+        route: [0; 4],
+        occupied: [0; 4],
         booms: [boom::UP; 4],
-        lamps: [false; 5],
-        kiosk: false,
-        operator: false,
+        lamps: [0; 5],
+        kiosk: 0,
+        operator: 0,
         countdown: 0,
         phase: phase::OPEN,
         timer: 0,
@@ -145,7 +148,7 @@ impl Crossing {
 
     /// A crossing of a fresh plant: nothing on, all lamps whole.
     pub const FRESH: Crossing = Crossing {
-        lamps: [true; 5],
+        lamps: [1; 5],
         ..Crossing::ZERO
     };
 }
@@ -170,6 +173,28 @@ impl Plant {
             site: *site,
             beat: 0,
             crossings,
+        }
+    }
+}
+
+/// The answer of a run.
+#[repr(C)]
+#[derive(Clone, Copy, PartialEq, Debug)]
+pub struct Run {
+    pub number: u8,
+    pub taken: u32,
+    pub refused: u32,
+    pub written_off: u32,
+}
+
+impl Run {
+    /// Nothing applied.
+    pub fn answer(number: u8) -> Run {
+        Run {
+            number,
+            taken: 0,
+            refused: 0,
+            written_off: 0,
         }
     }
 }

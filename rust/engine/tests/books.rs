@@ -36,9 +36,9 @@ fn read_gives_the_fresh_plant() {
     assert_eq!(plant.site.entries[2..], [Entry::ZERO; 6]);
     assert_eq!(plant.crossings[..2], [Crossing::FRESH; 2]);
     assert_eq!(plant.crossings[2..], [Crossing::ZERO; 6]);
-    assert_eq!(Crossing::FRESH.lamps, [true; 5]);
+    assert_eq!(Crossing::FRESH.lamps, [1; 5]);
     let dark = Crossing {
-        lamps: [false; 5],
+        lamps: [0; 5],
         ..Crossing::FRESH
     };
     assert_eq!(dark, Crossing::ZERO);

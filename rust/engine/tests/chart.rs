@@ -163,7 +163,10 @@ fn trap_passage_keeps_holds() {
         &mut plant,
         &[STRIKE_IN, [3, 0, 0, 1], [4, 0, 0, 1], PASSAGE],
     );
-    assert!(plant.crossings[0].kiosk && plant.crossings[0].operator);
+    assert_eq!(
+        (plant.crossings[0].kiosk, plant.crossings[0].operator),
+        (1, 1)
+    );
     assert_eq!(plant.crossings[0].phase, 1);
 }
 

@@ -23,7 +23,7 @@ fn strike_in_by_track_and_route() {
     take(&mut plant, &[[5, 2, 1, 0], [1, 2, 1, 0]]);
     assert_eq!(plant.crossings[2].calling, [1, 2, 0, 0]);
     assert_eq!(plant.crossings[2].waiting, [0, 1, 0, 0]);
-    assert!(!plant.crossings[2].route[1]);
+    assert_eq!(plant.crossings[2].route[1], 0);
 }
 
 #[test]
@@ -53,7 +53,7 @@ fn holds_close_and_open() {
 fn kiosk_off_is_taken_while_calling() {
     let mut plant = four_kinds();
     take(&mut plant, &[[3, 0, 0, 1], [1, 0, 0, 0], [3, 0, 0, 0]]);
-    assert!(!plant.crossings[0].kiosk);
+    assert_eq!(plant.crossings[0].kiosk, 0);
     assert_eq!(at(&plant, 0), (phase::WARNING, 2));
 }
 
@@ -212,7 +212,7 @@ fn reports_are_kept() {
     for value in [0, 1] {
         for lamp in 0..5 {
             take(&mut plant, &[[9, 0, lamp, value]]);
-            assert_eq!(plant.crossings[0].lamps[usize::from(lamp)], value == 1);
+            assert_eq!(plant.crossings[0].lamps[usize::from(lamp)], value);
         }
     }
 }

@@ -108,7 +108,7 @@ fn train_calling() {
     refuse(&plant, [4, 1, 0, 0], 11);
     take(&mut plant, &[[4, 0, 0, 0], [2, 1, 0, 0], [1, 1, 1, 0]]);
     take(&mut plant, &[[4, 1, 0, 0]]);
-    assert!(!plant.crossings[1].operator);
+    assert_eq!(plant.crossings[1].operator, 0);
 }
 
 #[test]

@@ -3,18 +3,22 @@
 mod common;
 
 use common::{entry, four_kinds, fresh};
-use engine::{Crossing, Entry, Plant};
+use engine::{in_range, Crossing, Entry, Plant};
 
 fn spoilt(plant: &Plant, change: impl FnOnce(&mut Plant)) {
     let mut changed = *plant;
     change(&mut changed);
     common::refuse(&changed, [9, 0, 0, 1], 15);
+    assert_eq!(engine::draw(&changed, &mut [0; 48]), 15);
+    let after = &mut changed.clone();
+    assert_eq!(engine::run(after, &[0, 0], &mut [0; 48]).number, 15);
+    assert_eq!(*after, changed);
 }
 
 fn sound(plant: &Plant, change: impl FnOnce(&mut Plant)) {
     let mut changed = *plant;
     change(&mut changed);
-    assert!(changed.in_range());
+    assert!(in_range(&changed));
     assert_eq!(engine::event(&mut changed, [9, 0, 0, 1]).0, 0);
 }
 
@@ -48,11 +52,9 @@ fn tracks() {
     sound(&plant, |p| p.crossings[0].calling[0] = 255);
     sound(&plant, |p| p.crossings[0].waiting[1] = 255);
     spoilt(&plant, |p| p.crossings[0].waiting[0] = 1);
-    spoilt(&plant, |p| p.crossings[0].route[0] = true);
-    sound(&plant, |p| p.crossings[0].route[1] = true);
-    sound(&plant, |p| {
-        p.crossings[0].occupied = [true, true, false, false]
-    });
+    spoilt(&plant, |p| p.crossings[0].route[0] = 1);
+    sound(&plant, |p| p.crossings[0].route[1] = 1);
+    sound(&plant, |p| p.crossings[0].occupied = [1, 1, 0, 0]);
     spoilt(&plant, |p| {
         p.crossings[3].calling[1] = 128;
         p.crossings[3].waiting[1] = 128;
@@ -60,8 +62,8 @@ fn tracks() {
     for track in 2..4 {
         spoilt(&plant, |p| p.crossings[1].calling[track] = 1);
         spoilt(&plant, |p| p.crossings[1].waiting[track] = 1);
-        spoilt(&plant, |p| p.crossings[1].route[track] = true);
-        spoilt(&plant, |p| p.crossings[1].occupied[track] = true);
+        spoilt(&plant, |p| p.crossings[1].route[track] = 1);
+        spoilt(&plant, |p| p.crossings[1].occupied[track] = 1);
     }
 }
 
@@ -74,6 +76,31 @@ fn booms() {
             spoilt(&plant, |p| p.crossings[crossing].booms[boom] = value);
             if boom < count {
                 sound(&plant, |p| p.crossings[crossing].booms[boom] = 2);
+            }
+        }
+    }
+}
+
+/// The flags in turn.
+fn flag(c: &mut Crossing, i: usize) -> &mut u8 {
+    match i {
+        0..=3 => &mut c.route[i],
+        4..=7 => &mut c.occupied[i - 4],
+        8..=12 => &mut c.lamps[i - 8],
+        13 => &mut c.kiosk,
+        _ => &mut c.operator,
+    }
+}
+
+#[test]
+fn every_byte_as_every_flag() {
+    let plant = fresh(&[entry(3, 4, 0b1111, 2, 0); 3]);
+    for (i, crossing) in (0..15).flat_map(|i| (0..8).map(move |c| (i, c))) {
+        for value in 0..=255 {
+            let known = value == 0 || value == 1 && crossing < 3;
+            match known {
+                true => sound(&plant, |p| *flag(&mut p.crossings[crossing], i) = value),
+                false => spoilt(&plant, |p| *flag(&mut p.crossings[crossing], i) = value),
             }
         }
     }
@@ -96,7 +123,7 @@ fn phases_and_timers() {
                 let mut changed = plant;
                 changed.crossings[usize::from(kind) - 1].phase = phase;
                 changed.crossings[usize::from(kind) - 1].timer = timer;
-                assert_eq!(changed.in_range(), known, "{kind} {phase} {timer}");
+                assert_eq!(in_range(&changed), known, "{kind} {phase} {timer}");
             }
         }
     }
@@ -117,12 +144,12 @@ fn past_n() {
     let changes: [fn(&mut Crossing); 12] = [
         |c| c.calling[0] = 1,
         |c| c.waiting[0] = 1,
-        |c| c.route[0] = true,
-        |c| c.occupied[3] = true,
+        |c| c.route[0] = 1,
+        |c| c.occupied[3] = 1,
         |c| c.booms[0] = 1,
-        |c| c.lamps[4] = true,
-        |c| c.kiosk = true,
-        |c| c.operator = true,
+        |c| c.lamps[4] = 1,
+        |c| c.kiosk = 1,
+        |c| c.operator = 1,
         |c| c.countdown = 1,
         |c| c.phase = 3,
         |c| c.timer = 1,
@@ -152,9 +179,9 @@ fn relations_between_fields_are_free() {
     let plant = fresh(&[entry(3, 1, 1, 2, 0)]);
     sound(&plant, |p| {
         let c = &mut p.crossings[0];
-        c.route[0] = true;
+        c.route[0] = 1;
         c.waiting[0] = 3;
-        c.kiosk = true;
+        c.kiosk = 1;
         c.countdown = 9;
         c.out = 5;
     });

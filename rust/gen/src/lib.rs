@@ -5,6 +5,8 @@
 mod books;
 mod coverage;
 mod events;
+mod flags;
+mod goals;
 mod plants;
 mod rng;
 mod sheets;
@@ -16,6 +18,7 @@ pub use books::{
 };
 pub use coverage::{Call, Coverage};
 pub use events::{event, event_grid, junk_event};
+pub use flags::{every_flag, flags, FLAGS};
 pub use plants::plant;
 pub use rng::Rng;
 pub use sheets::{damaged_sheet, sheet_bytes, sheet_events, SheetDamage};

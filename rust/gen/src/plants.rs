@@ -42,10 +42,10 @@ pub(crate) fn crossing(rng: &mut Rng, entry: &Entry) -> Crossing {
     let mut c = Crossing::FRESH;
     for t in 0..usize::from(entry.tracks) {
         c.calling[t] = trains(rng);
-        c.occupied[t] = rng.once_in(5);
+        c.occupied[t] = rng.once_in(5).into();
         if entry.depends(t) {
             c.waiting[t] = trains(rng).min(255 - c.calling[t]);
-            c.route[t] = rng.once_in(3);
+            c.route[t] = rng.once_in(3).into();
         }
     }
     if rng.once_in(3) {
@@ -53,10 +53,10 @@ pub(crate) fn crossing(rng: &mut Rng, entry: &Entry) -> Crossing {
     }
     set_booms(rng, &mut c, entry);
     for lamp in &mut c.lamps {
-        *lamp = !rng.once_in(6);
+        *lamp = (!rng.once_in(6)).into();
     }
-    c.kiosk = rng.once_in(4);
-    c.operator = rng.once_in(4);
+    c.kiosk = rng.once_in(4).into();
+    c.operator = rng.once_in(4).into();
     c.countdown = count(rng, &[1, 2, 269, 270], 270);
     c.out = count(rng, &[1, 899, 900, 901], 901);
     set_phase(rng, &mut c, entry);

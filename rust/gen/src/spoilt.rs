@@ -22,6 +22,7 @@ spoils! {
     EntryPastKind EntryPastTracks EntryPastMask EntryPastPre EntryPastGap
     Beat TooManyTrains WaitingOnPlain RouteOnPlain
     CallingOffTrack WaitingOffTrack RouteOffTrack OccupiedOffTrack
+    Route Occupied Lamp Kiosk Operator
     BoomReport LackingBoom Countdown Out
     PhaseOver RightDownWithoutLeft RaisingLights
     WarningTimerZero WarningTimerOver GapTimerZero GapTimerOver StillTimer
@@ -50,6 +51,7 @@ pub fn spoilt_plant(rng: &mut Rng, spoil: Spoil) -> Plant {
             spoil_entry(rng, &mut plant.site.entries[i], spoil);
             spoil_past_entry(rng, &mut plant.site.entries[past], spoil);
             spoil_tracks(rng, &e, &mut plant.crossings[i], spoil);
+            spoil_flags(rng, &e, &mut plant.crossings[i], spoil);
             spoil_phase(rng, &e, &mut plant.crossings[i], spoil);
             spoil_past(rng, &mut plant.crossings[past], spoil);
         }
@@ -88,7 +90,7 @@ fn suited(rng: &mut Rng, spoil: Spoil) -> Entry {
     match spoil {
         Spoil::CallingOffTrack | Spoil::WaitingOffTrack => e.tracks = e.tracks.min(3),
         Spoil::RouteOffTrack | Spoil::OccupiedOffTrack => e.tracks = e.tracks.min(3),
-        Spoil::TooManyTrains => e.mask |= 1,
+        Spoil::TooManyTrains | Spoil::Route => e.mask |= 1,
         _ => {}
     }
     e.mask &= match spoil {
@@ -96,6 +98,14 @@ fn suited(rng: &mut Rng, spoil: Spoil) -> Entry {
         _ => (1 << e.tracks) - 1,
     };
     e
+}
+
+/// A byte from `least` on, often at a bound.
+fn byte(rng: &mut Rng, least: u8) -> u8 {
+    match rng.flag() {
+        true => rng.pick(&[least, 127, 128, 254, 255]),
+        false => rng.within(least.into()..=255) as u8,
+    }
 }
 
 fn spoil_entry(rng: &mut Rng, e: &mut Entry, spoil: Spoil) {
@@ -134,11 +144,11 @@ fn spoil_tracks(rng: &mut Rng, e: &Entry, c: &mut Crossing, spoil: Spoil) {
             c.waiting[last] = 1;
             c.calling[last] = c.calling[last].min(254);
         }
-        Spoil::RouteOnPlain => c.route[last] = true,
+        Spoil::RouteOnPlain => c.route[last] = byte(rng, 1),
         Spoil::CallingOffTrack => c.calling[off] = rng.pick(&[1, 255]),
         Spoil::WaitingOffTrack => c.waiting[off] = rng.pick(&[1, 255]),
-        Spoil::RouteOffTrack => c.route[off] = true,
-        Spoil::OccupiedOffTrack => c.occupied[off] = true,
+        Spoil::RouteOffTrack => c.route[off] = byte(rng, 1),
+        Spoil::OccupiedOffTrack => c.occupied[off] = byte(rng, 1),
         Spoil::BoomReport => {
             let b = rng.below(e.booms().into()) as usize;
             c.booms[b] = rng.pick(&[3, 4, 255]);
@@ -146,6 +156,19 @@ fn spoil_tracks(rng: &mut Rng, e: &Entry, c: &mut Crossing, spoil: Spoil) {
         Spoil::LackingBoom => c.booms[lacking] = rng.pick(&[1, 2, 255]),
         Spoil::Countdown => c.countdown = rng.pick(&[271, 526, 65535]),
         Spoil::Out => c.out = rng.pick(&[902, 1024, 65535]),
+        _ => {}
+    }
+}
+
+/// A flag that may be set, but neither to 0 nor to 1.
+fn spoil_flags(rng: &mut Rng, e: &Entry, c: &mut Crossing, spoil: Spoil) {
+    let track = rng.below(e.tracks.into()) as usize;
+    match spoil {
+        Spoil::Route => c.route[0] = byte(rng, 2),
+        Spoil::Occupied => c.occupied[track] = byte(rng, 2),
+        Spoil::Lamp => c.lamps[rng.below(5) as usize] = byte(rng, 2),
+        Spoil::Kiosk => c.kiosk = byte(rng, 2),
+        Spoil::Operator => c.operator = byte(rng, 2),
         _ => {}
     }
 }
@@ -173,13 +196,13 @@ fn spoil_past(rng: &mut Rng, c: &mut Crossing, spoil: Spoil) {
     match spoil {
         Spoil::PastCalling => c.calling[i] = 1,
         Spoil::PastWaiting => c.waiting[i] = 1,
-        Spoil::PastRoute => c.route[i] = true,
-        Spoil::PastOccupied => c.occupied[i] = true,
+        Spoil::PastRoute => c.route[i] = byte(rng, 1),
+        Spoil::PastOccupied => c.occupied[i] = byte(rng, 1),
         Spoil::PastBooms => c.booms[i] = rng.pick(&[1, 2, 255]),
-        Spoil::PastLamps if rng.flag() => c.lamps = [true; 5],
-        Spoil::PastLamps => c.lamps[rng.below(5) as usize] = true,
-        Spoil::PastKiosk => c.kiosk = true,
-        Spoil::PastOperator => c.operator = true,
+        Spoil::PastLamps if rng.flag() => c.lamps = [1; 5],
+        Spoil::PastLamps => c.lamps[rng.below(5) as usize] = byte(rng, 1),
+        Spoil::PastKiosk => c.kiosk = byte(rng, 1),
+        Spoil::PastOperator => c.operator = byte(rng, 1),
         Spoil::PastCountdown => c.countdown = rng.pick(&[1, 256, 270]),
         Spoil::PastPhase => c.phase = rng.pick(&[1, 3, 255]),
         Spoil::PastTimer => c.timer = rng.pick(&[1, 256]),

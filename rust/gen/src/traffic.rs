@@ -3,11 +3,12 @@
 
 use crate::events::{event, junk_event};
 use crate::rng::Rng;
+use engine::events::apply;
 use engine::{boom, code, phase, Plant};
 
 const TICK: [u8; 4] = [code::TICK, 0, 0, 0];
 
-/// Coherent traffic from `plant`, `len` events.
+/// Coherent traffic from a plant in range, `len` events.
 pub fn coherent(rng: &mut Rng, plant: &Plant, len: usize) -> Vec<[u8; 4]> {
     let mut list = List::new(rng, plant, len);
     while list.has_room() {
@@ -58,7 +59,8 @@ impl<'a> List<'a> {
 
     fn push(&mut self, e: [u8; 4]) {
         if self.has_room() {
-            engine::event(&mut self.plant, e);
+            // Taken or refused, the list goes on.
+            let _ = apply(&mut self.plant, e);
             self.events.push(e);
         }
     }
@@ -170,7 +172,7 @@ impl<'a> List<'a> {
             self.push([code::APPROACH, c, t, 0]);
             self.push([code::ROUTE, c, t, 0]);
         }
-        while self.plant.crossings[usize::from(c)].operator && self.has_room() {
+        while self.plant.crossings[usize::from(c)].operator != 0 && self.has_room() {
             if self.plant.crossings[usize::from(c)].calling == [0; 4] {
                 self.push([code::OPERATOR_HOLD, c, 0, 0]);
             }

@@ -1,9 +1,10 @@
 //! The generators give what their names say, and the same on every machine.
 
-use engine::{book_len, draw, event, panel_len, read_book, run};
+use engine::{book_len, draw, event, in_range, panel_len, read_book, run};
 use gen::{
-    book, book_bytes, coherent, damaged_book, damaged_sheet, junk_event, mixed, plant, quick_site,
-    sheet_bytes, sheet_events, site, spoilt_plant, BookDamage, Coverage, Rng, SheetDamage, Spoil,
+    book, book_bytes, coherent, damaged_book, damaged_sheet, every_flag, junk_event, mixed, plant,
+    quick_site, sheet_bytes, sheet_events, site, spoilt_plant, BookDamage, Call, Coverage, Rng,
+    SheetDamage, Spoil,
 };
 
 #[test]
@@ -78,7 +79,7 @@ fn damaged_books_are_refused() {
 fn plants_are_in_range() {
     let mut rng = Rng::new(3);
     for _ in 0..5000 {
-        assert!(plant(&mut rng).in_range());
+        assert!(in_range(&plant(&mut rng)));
     }
 }
 
@@ -96,6 +97,22 @@ fn spoilt_plants_are_refused() {
             assert_eq!(run(&mut after, &[], &mut []).number, 15, "{spoil:?}");
         }
     }
+}
+
+#[test]
+fn every_flag_has_every_byte() {
+    let lacks = |plants: &mut dyn Iterator<Item = engine::Plant>| {
+        let mut seen = Coverage::new();
+        plants.for_each(|plant| seen.flags(Call::Event, &plant));
+        let missing = seen.missing().into_iter();
+        let missing = missing.filter(|goal| goal.starts_with("flag bytes event"));
+        missing.collect::<Vec<String>>()
+    };
+    assert!(lacks(&mut every_flag()).is_empty());
+    let mut but_one = every_flag().filter(|plant| plant.crossings[3].kiosk != 77);
+    let [unused, used] = ["unused 26879 of 26880", "used 30719 of 30720"];
+    let both = [unused, used].map(|goal| format!("flag bytes event {goal}"));
+    assert_eq!(lacks(&mut but_one), both);
 }
 
 #[test]

@@ -1,5 +1,6 @@
 //! The proved engine's five calls; include/wilzhoram.h says what each does. The types are
-//! laid out as there.
+//! laid out as there, and every byte pattern is a value of each: what is out of range, the
+//! calls refuse.
 
 /// The settings of one crossing.
 #[repr(C)]
@@ -20,18 +21,19 @@ pub struct Site {
     pub entries: [Entry; 8],
 }
 
-/// What the plant holds for one crossing.
+/// What the plant holds for one crossing. Each byte of route, occupied, lamps, kiosk and
+/// operator is a flag, 0 or 1; any other is out of range, number 15.
 #[repr(C)]
 #[derive(Clone, Copy, PartialEq, Debug)]
 pub struct Crossing {
     pub calling: [u8; 4],
     pub waiting: [u8; 4],
-    pub route: [bool; 4],
-    pub occupied: [bool; 4],
+    pub route: [u8; 4],
+    pub occupied: [u8; 4],
     pub booms: [u8; 4],
-    pub lamps: [bool; 5],
-    pub kiosk: bool,
-    pub operator: bool,
+    pub lamps: [u8; 5],
+    pub kiosk: u8,
+    pub operator: u8,
     pub countdown: u16,
     pub phase: u8,
     pub timer: u16,

@@ -1,0 +1,53 @@
+//! The plain engine with planted faults, to show that a comparison finds them: an engine for
+//! each edit of edits/, made by the build script. The plain engine knows nothing of them.
+
+#[cfg(test)]
+mod edit;
+
+use engine::{Plant, Run, Site};
+
+/// The five calls of one engine.
+#[derive(Clone, Copy)]
+pub struct Calls {
+    pub read_book: fn(&[u8]) -> (u8, Plant),
+    pub write_book: fn(&Site, &mut [u8]) -> u8,
+    pub event: fn(&mut Plant, [u8; 4]) -> (u8, u32),
+    pub draw: fn(&Plant, &mut [u8]) -> u8,
+    pub run: fn(&mut Plant, &[u8], &mut [u8]) -> Run,
+}
+
+/// One planted fault.
+#[derive(Clone, Copy)]
+pub struct Fault {
+    /// The edit's name.
+    pub name: &'static str,
+    /// What is wrong.
+    pub what: &'static str,
+    pub calls: Calls,
+}
+
+macro_rules! fault {
+    ($name:ident, $what:literal) => {
+        Fault {
+            name: stringify!($name),
+            what: $what,
+            calls: Calls {
+                read_book: $name::book::read_book,
+                write_book: $name::book::write_book,
+                event: $name::events::event,
+                draw: $name::panel::draw,
+                run: $name::sheet::run,
+            },
+        }
+    };
+}
+
+#[allow(unused, clippy::all)]
+mod engines {
+    use super::{Calls, Fault};
+
+    include!(concat!(env!("OUT_DIR"), "/faults.rs"));
+}
+
+/// Every planted fault, by name.
+pub use engines::FAULTS;

@@ -1,0 +1,250 @@
+//! What a set of inputs should reach, and the table of it.
+
+use crate::coverage::{Call, Coverage};
+use crate::flags::FlagBytes;
+use engine::{code, number, PANEL};
+use std::fmt::Write;
+
+const CALLS: [&str; 5] = ["read book", "write book", "event", "draw", "run"];
+/// The numbers each call can give.
+const CALL_NUMBERS: [&[u8]; 5] = [
+    &[0, 1, 2, 3],
+    &[0, 2, 3, 14],
+    &[0, 5, 6, 7, 8, 9, 10, 11, 12, 13, 15],
+    &[0, 14, 15],
+    &[0, 2, 4, 14, 15],
+];
+const SIGNALS: [&str; 4] = ["road", "boom lamps", "train signal", "distant"];
+const RHYTHMS: [&str; 3] = ["slow", "fast", "steady"];
+/// The bits of each panel byte that can be 0 and 1.
+const PANEL_BITS: [u8; PANEL] = [3, 15, 1, 1, 1, 1, 3, 3, 15, 7, 7, 3, 255, 3, 255, 3];
+/// The changes of phase that one event can bring.
+const MOVES: [(u8, u8); 13] = [
+    (0, 1),
+    (1, 0),
+    (1, 2),
+    (1, 3),
+    (1, 4),
+    (2, 3),
+    (2, 4),
+    (3, 0),
+    (3, 4),
+    (4, 0),
+    (4, 1),
+    (0, 0),
+    (4, 4),
+];
+/// The calls that are handed a plant.
+const WITH_PLANT: [Call; 3] = [Call::Event, Call::Draw, Call::Run];
+
+/// The refusals an event of this code can meet, beside 6, 7 and 8; 10 stands for the rest.
+fn own_refusals(code: usize) -> &'static [u8] {
+    match code as u8 {
+        code::STRIKE_IN => &[number::FULL_TRACK],
+        code::PASSAGE => &[number::GHOST_PASSAGE],
+        code::OPERATOR_HOLD => &[number::TRAIN_CALLING],
+        code::ROUTE => &[number::PLAIN_TRACK],
+        code::TIME_RELEASE => &[number::NOT_CLEAR],
+        _ => &[],
+    }
+}
+
+/// The numbers an event of this code can get.
+fn code_numbers(code: usize) -> Vec<u8> {
+    if code == 10 {
+        return vec![number::UNKNOWN_CODE, number::SPOILT_PLANT];
+    }
+    let mut numbers = vec![0, 6, 7, 8];
+    numbers.extend(own_refusals(code));
+    numbers.push(number::SPOILT_PLANT);
+    numbers
+}
+
+fn kind_phases(kind: usize) -> &'static [usize] {
+    match kind {
+        1 => &[0, 1, 3],
+        4 => &[0, 1, 2, 3, 4],
+        _ => &[0, 1, 3, 4],
+    }
+}
+
+/// One thing to be reached, how often it was and how often it must be.
+struct Goal {
+    group: &'static str,
+    name: String,
+    count: u64,
+    needed: u64,
+}
+
+impl Goal {
+    fn once(group: &'static str, name: String, count: u64) -> Goal {
+        Goal {
+            group,
+            name,
+            count,
+            needed: 1,
+        }
+    }
+
+    fn is_reached(&self) -> bool {
+        self.count >= self.needed
+    }
+
+    fn cell(&self) -> String {
+        match self.needed {
+            1 => format!("{} {}", self.name, short(self.count)),
+            all => format!("{} {} of {all}", self.name, self.count),
+        }
+    }
+}
+
+impl Coverage {
+    fn goals(&self) -> Vec<Goal> {
+        let mut goals = self.number_goals();
+        goals.extend(self.phase_goals());
+        goals.extend(self.rhythm_goals());
+        goals.extend(self.bit_goals());
+        goals.extend(self.flag_goals());
+        goals
+    }
+
+    fn number_goals(&self) -> Vec<Goal> {
+        let mut goals = Vec::new();
+        let mut goal = |group, name, count| goals.push(Goal::once(group, name, count));
+        for n in 0..16 {
+            let count = self.calls.iter().map(|c| c[n]).sum();
+            goal("number", format!("{n}"), count);
+        }
+        for (c, numbers) in CALL_NUMBERS.iter().enumerate() {
+            for n in *numbers {
+                goal(CALLS[c], format!("{n}"), self.calls[c][usize::from(*n)]);
+            }
+        }
+        for (c, counts) in self.codes.iter().enumerate() {
+            for n in code_numbers(c) {
+                goal("code:number", format!("{c}:{n}"), counts[usize::from(n)]);
+            }
+        }
+        goals
+    }
+
+    fn phase_goals(&self) -> Vec<Goal> {
+        let mut goals = Vec::new();
+        let mut goal = |group, name, count| goals.push(Goal::once(group, name, count));
+        for kind in 1..=4 {
+            goal("kind", format!("{kind}"), self.phases[kind].iter().sum());
+        }
+        for kind in 1..=4 {
+            for p in kind_phases(kind) {
+                goal("kind:phase", format!("{kind}:{p}"), self.phases[kind][*p]);
+            }
+        }
+        for (from, to) in MOVES {
+            let count = self.moves[usize::from(from)][usize::from(to)];
+            goal("phase>phase", format!("{from}>{to}"), count);
+        }
+        for (i, name) in ["0", "1", "more"].into_iter().enumerate() {
+            goal("written off by a tick", name.into(), self.written_off[i]);
+        }
+        goals
+    }
+
+    fn rhythm_goals(&self) -> Vec<Goal> {
+        let mut goals = Vec::new();
+        for (s, signal) in SIGNALS.into_iter().enumerate() {
+            let shown = |b: u8| b >> (4 + s) & 1 == 1;
+            let lit = |b: u8| b >> s & 1 == 1;
+            for (counts, rhythm) in self.signals.iter().zip(RHYTHMS) {
+                let mut goal = |name, count| goals.push(Goal::once(signal, name, count));
+                // Boom lamps show out of normal position only, where nothing is slow.
+                match rhythm {
+                    "slow" if s == 1 => {}
+                    "steady" => goal(rhythm.into(), counts.sum(shown)),
+                    _ => {
+                        goal(format!("{rhythm} lit"), counts.sum(|b| shown(b) && lit(b)));
+                        goal(
+                            format!("{rhythm} dark"),
+                            counts.sum(|b| shown(b) && !lit(b)),
+                        );
+                    }
+                }
+            }
+        }
+        goals
+    }
+
+    fn bit_goals(&self) -> Vec<Goal> {
+        let mut goals = Vec::new();
+        for (i, mask) in PANEL_BITS.into_iter().enumerate() {
+            for bit in (0..8).filter(|bit| mask >> bit & 1 == 1) {
+                for value in 0..2 {
+                    let count = self.bytes[i].sum(|b| b >> bit & 1 == value);
+                    let name = format!("{i}.{bit}={value}");
+                    goals.push(Goal::once("panel byte.bit=value", name, count));
+                }
+            }
+        }
+        goals
+    }
+
+    /// Every byte as every flag of every crossing, in plants handed to a call.
+    fn flag_goals(&self) -> Vec<Goal> {
+        let mut goals = Vec::new();
+        for call in WITH_PLANT {
+            let counts = self.flags[call as usize].counts();
+            for (i, crossings) in ["unused", "used"].into_iter().enumerate() {
+                goals.push(Goal {
+                    group: "flag bytes",
+                    name: format!("{} {crossings}", CALLS[call as usize]),
+                    count: counts[i],
+                    needed: FlagBytes::ALL[i],
+                });
+            }
+        }
+        goals
+    }
+
+    /// The things not reached.
+    pub fn missing(&self) -> Vec<String> {
+        let left = self.goals().into_iter().filter(|g| !g.is_reached());
+        left.map(|g| format!("{} {}", g.group, g.cell())).collect()
+    }
+
+    /// How many things were reached, and how many there are.
+    pub fn reached(&self) -> (usize, usize) {
+        let goals = self.goals();
+        let reached = goals.iter().filter(|g| g.is_reached()).count();
+        (reached, goals.len())
+    }
+
+    /// A line or more per group: each thing and how often it was reached.
+    pub fn table(&self) -> String {
+        let mut text = String::new();
+        let (mut group, mut width) = ("", 0);
+        for g in self.goals() {
+            let cell = format!("  {}", g.cell());
+            if g.group != group || width + cell.len() > TABLE_WIDTH {
+                let head = if g.group == group { "" } else { g.group };
+                let _ = write!(text, "\n{head:<22}");
+                (group, width) = (g.group, 22);
+            }
+            width += cell.len();
+            text.push_str(&cell);
+        }
+        let (reached, all) = self.reached();
+        let _ = writeln!(text, "\n{:<24}{}", "panels drawn", self.panels);
+        let _ = writeln!(text, "{:<24}{reached} of {all}", "reached");
+        text
+    }
+}
+
+const TABLE_WIDTH: usize = 110;
+
+/// A count as people read it: 734, 12k, 3.4M.
+fn short(count: u64) -> String {
+    match count {
+        0..=9_999 => format!("{count}"),
+        10_000..=999_999 => format!("{}k", count / 1000),
+        _ => format!("{}.{}M", count / 1_000_000, count / 100_000 % 10),
+    }
+}
