@@ -3,29 +3,9 @@ use machine::Crossing;
 use machine::Entry;
 ghost use mathlib.Core.Bool.{cond};
 ghost use mathlib.Core.Path.{_≡_};
-ghost use Prim.Native.Nat.{_+_, _<_};
 ghost use Rattle.machine.specs.Common.{all-below};
 ghost use Rattle.machine.specs.Plant.{lamp-flag};
-ghost use Rattle.machine.specs.Range.{boom-in, crossing-in, flag-in, phase-in, track-in};
-
-// The trains of a track together.
-fn together(calling: u8, waiting: u8) -> u16
-    ensures { λ r. ⌜ r ≡ calling + waiting ⌝ }
-{
-    (calling as u16) + (waiting as u16)
-}
-
-// What track t holds is in its range. Inside this crate alone: t is below 4.
-fn track_in(s: Entry, c: Crossing, t: usize) -> bool
-    requires { ⌜ t < 4 ⌝ }
-    ensures { λ r. ⌜ r ≡ track-in s c t ⌝ }
-{
-    let tracks = s.tracks as usize;
-    (together(c.calling[t], c.waiting[t]) <= Crossing::FULL as u16)
-        & ((c.route[t] <= 1) & (c.occupied[t] <= 1))
-        & (kind::dependent(s, t) | ((c.waiting[t] == 0) & (c.route[t] == 0)))
-        & ((t < tracks) | unused::track_zero(c, t))
-}
+ghost use Rattle.machine.specs.Range.{boom-in, crossing-in, flag-in, phase-in};
 
 // The highest report of a boom; a boom that the crossing lacks stays at 0.
 fn report_limit(present: bool) -> u8
@@ -72,7 +52,10 @@ fn phase_in(s: Entry, phase: u8, timer: u16) -> bool
 pub fn crossing_in(s: Entry, c: Crossing) -> bool
     ensures { λ r. ⌜ r ≡ crossing-in s c ⌝ }
 {
-    (track_in(s, c, 0) & track_in(s, c, 1) & track_in(s, c, 2) & track_in(s, c, 3))
+    (track::track_in(s, c, 0)
+        & track::track_in(s, c, 1)
+        & track::track_in(s, c, 2)
+        & track::track_in(s, c, 3))
         & booms_in(s, c)
         & lamps_in(c)
         & ((c.kiosk <= 1) & (c.operator <= 1))

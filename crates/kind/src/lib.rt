@@ -1,6 +1,4 @@
 // What a kind and a mask give a crossing: its booms and its dependent tracks (document 01, "Site book").
-pub mod booms;
-
 use machine::Entry;
 ghost use mathlib.Core.Path.{_≡_};
 ghost use Rattle.machine.specs.Plant.{lights-only, boom-count, dependent};

@@ -25,7 +25,7 @@ pub fn row(beat: u8, s: Entry, c: Crossing) -> [u8; 16]
             (0 < signal) & on,
             on,
         ),
-        bits::bit(!normal & !(has_booms & kind::booms::down(s.kind, booms))),
+        bits::bit(!normal & !(has_booms & booms::down(s.kind, booms))),
         bits::bit(!normal & has_booms),
         bits::bit(has_booms & ((c.phase == 2) | (c.phase == 3))),
         bits::bit((s.kind == 4) & (c.phase == 3)),

@@ -9,7 +9,7 @@ pub fn is_normal(s: Entry, c: Crossing) -> bool
     ensures { λ r. ⌜ r ≡ normal s c ⌝ }
 {
     let booms = c.booms;
-    (c.phase == 0) & kind::booms::up(s.kind, booms)
+    (c.phase == 0) & booms::up(s.kind, booms)
 }
 
 // Secured: all ordered down, the road's red whole, and the booms as the kind demands.
@@ -17,5 +17,5 @@ pub fn is_secured(s: Entry, c: Crossing) -> bool
     ensures { λ r. ⌜ r ≡ secured s c ⌝ }
 {
     let booms = c.booms;
-    (c.phase == 3) & (c.lamps[1] == 1) & kind::booms::closed(s.kind, booms)
+    (c.phase == 3) & (c.lamps[1] == 1) & booms::closed(s.kind, booms)
 }

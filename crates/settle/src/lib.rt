@@ -71,7 +71,7 @@ pub fn settle(s: Entry, tick: bool, c: Crossing) -> Crossing
     ensures { λ r. ⌜ r ≡ settle s (bit tick 1) c ⌝ }
 {
     let booms = c.booms;
-    let up = kind::booms::up(s.kind, booms);
+    let up = booms::up(s.kind, booms);
     let next = phase_settled(s.kind, stands(c), up, c.phase);
     let timer = timer_settled(s.pre, c.phase, next, c.timer);
     let out = out_settled((next == 0) & up, tick, c.out);

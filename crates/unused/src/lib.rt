@@ -1,19 +1,10 @@
 // A record past the last crossing: all zero (document 01, "What the plant holds").
 use machine::Crossing;
 ghost use mathlib.Core.Path.{_≡_};
-ghost use Prim.Native.Nat.{_<_};
 ghost use lib.Dec.{eqb};
 ghost use Rattle.machine.specs.Common.{all-below};
 ghost use Rattle.machine.specs.Plant.{boom, lamp-flag};
-ghost use Rattle.machine.specs.Range.{crossing-zero, track-zero};
-
-// Nothing on track t. For other crates alone: t is below 4.
-pub fn track_zero(c: Crossing, t: usize) -> bool
-    requires { ⌜ t < 4 ⌝ }
-    ensures { λ r. ⌜ r ≡ track-zero c t ⌝ }
-{
-    (c.calling[t] == 0) & (c.waiting[t] == 0) & (c.route[t] == 0) & (c.occupied[t] == 0)
-}
+ghost use Rattle.machine.specs.Range.{crossing-zero};
 
 // Every boom is last reported up.
 fn booms_zero(c: Crossing) -> bool
@@ -37,7 +28,10 @@ fn lamps_zero(c: Crossing) -> bool
 pub fn crossing_zero(c: Crossing) -> bool
     ensures { λ r. ⌜ r ≡ crossing-zero c ⌝ }
 {
-    (track_zero(c, 0) & track_zero(c, 1) & track_zero(c, 2) & track_zero(c, 3))
+    (track::track_zero(c, 0)
+        & track::track_zero(c, 1)
+        & track::track_zero(c, 2)
+        & track::track_zero(c, 3))
         & booms_zero(c)
         & lamps_zero(c)
         & (c.kiosk == 0)

@@ -1,11 +1,11 @@
 use mathlib.Core.Path.{_∙_}
 use lib.Dec.{eqb}
 use lib.ListN.{getD}
-use Rattle.kind.proofs.Laws.{sides}
-use Rattle.machine.specs.Plant.{booms-up}
+use Rattle.booms.proofs.Laws.{sides}
+use Rattle.machine.specs.Plant.{booms-down}
 use borrow.Author.Needs.{needs}
-use Rattle.kind.proofs.booms.up.Statement.{statement}
-use Rattle.kind.proofs.booms.up.Tie as tie
+use Rattle.booms.proofs.down.Statement.{statement}
+use Rattle.booms.proofs.down.Tie as tie
 
 array-read-each : tie.Need-array-read-each
 array-read-each c = search needs
@@ -23,11 +23,11 @@ each-requires : tie.Need-each-requires
 each-requires c κs = search needs
 
 returns : tie.Need-returns
-unfolding booms-up
-returns c = let a = c .before .args in c .each .ensures ∙ sides (a .kind) (λ b. eqb (getD (a .t2) b 0) 0)
+unfolding booms-down
+returns c = let a = c .before .args in c .each .ensures ∙ sides (a .kind) (λ b. eqb (getD (a .t2) b 0) 2)
 
-pub up-spec : {M : Type 1} → statement M
-up-spec =
+pub down-spec : {M : Type 1} → statement M
+down-spec =
     tie.close
     (tie.spec
     array-read-each

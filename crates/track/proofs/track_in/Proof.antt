@@ -1,7 +1,7 @@
 use Rattle.machine.specs.Range.{track-in}
 use borrow.Author.Needs.{needs}
-use Rattle.held.proofs.track_in.Statement.{statement}
-use Rattle.held.proofs.track_in.Tie as tie
+use Rattle.track.proofs.track_in.Statement.{statement}
+use Rattle.track.proofs.track_in.Tie as tie
 
 cast-tracks : tie.Need-cast-tracks
 cast-tracks c = search needs

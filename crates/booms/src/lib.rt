@@ -2,13 +2,13 @@
 ghost use mathlib.Core.Path.{_≡_};
 ghost use lib.ListN.{getD};
 ghost use Rattle.machine.specs.Plant.{booms-up, booms-down, booms-closed};
-ghost use Rattle.kind.specs.Sides.{on-sides};
+ghost use Rattle.booms.specs.Sides.{on-sides};
 
 // A test that holds of each boom that the kind has: right of the road, where there are any, and left for kind 4.
 fn each(kind: u8, right: bool, left: bool) -> bool
     ensures { λ r. ⌜ r ≡ on-sides kind right left ⌝ }
 {
-    if super::lights_only(kind) {
+    if kind::lights_only(kind) {
         return true;
     }
     if kind == 4 {

@@ -2,8 +2,8 @@ use mathlib.Core.Bool.{and-true}
 use borrow.Author.Tests.{ne-eqb}
 use Rattle.machine.specs.Plant.{booms-closed, booms-down}
 use borrow.Author.Needs.{needs}
-use Rattle.kind.proofs.booms.closed.Statement.{statement}
-use Rattle.kind.proofs.booms.closed.Tie as tie
+use Rattle.booms.proofs.closed.Statement.{statement}
+use Rattle.booms.proofs.closed.Tie as tie
 
 array-read-result : tie.Need-array-read-result
 array-read-result c = search needs

@@ -1,8 +1,8 @@
 use borrow.Author.Needs.{needs}
 use borrow.Author.Tests.{eq-eqb, ne-eqb}
-use Rattle.kind.specs.Sides.{on-sides}
-use Rattle.kind.proofs.booms.each.Statement.{statement}
-use Rattle.kind.proofs.booms.each.Tie as tie
+use Rattle.booms.specs.Sides.{on-sides}
+use Rattle.booms.proofs.each.Statement.{statement}
+use Rattle.booms.proofs.each.Tie as tie
 
 lights-only-requires : tie.Need-lights-only-requires
 lights-only-requires c κs = search needs
