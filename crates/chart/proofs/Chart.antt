@@ -2,36 +2,18 @@
 use mathlib.Core.Path.{_≡_, refl}
 use mathlib.Core.List.{List, [], _∷_, _++_}
 use Prim.Native.Nat.{ℕ}
-use lib.ListN.{replicate, getD}
+use lib.ListN.{getD}
+use Rattle.machine.specs.declared.Event.{Event}
 use Rattle.machine.specs.Plant.{crossing, fresh-plant, dependent, reason, booms-up, booms-down, booms-closed, normal, secured}
 use Rattle.machine.specs.Range.{entry-in, entry-zero, track-in, phase-in, crossing-in, crossing-zero, place-in, in-range}
-use Rattle.machine.specs.declared.Event.{Event}
 use Rattle.machine.specs.Events.{place-limit, value-limit, refusal, number}
 use Rattle.machine.specs.Effects.{calling-after, waiting-after, cancels, act, phase-ticked, timer-ticked, tick, written-at}
 use Rattle.machine.specs.Settling.{phase-settled, timer-settled, out-settled, settle}
 use Rattle.machine.specs.Step.{touch, apply, written, step, after, carried}
 use Rattle.machine.specs.Panel.{road, signal, distant, rhythm, lit, bell, boom-lamps, right-down, left-down, released, releases-shown, status, holds, row, panel}
 use Rattle.machine.specs.SiteBook.{book-entry, book-site, read-number, read}
-
-abbrev ev : ℕ → ℕ → ℕ → Event
-ev code place value = record { code = code; crossing = 0; place = place; value = value }
-
-abbrev a-tick : Event
-a-tick = ev 0 0 0
-
-abbrev strike-in : Event
-strike-in = ev 1 0 0
-
-abbrev passage : Event
-passage = ev 2 0 0
-
--- a book of one crossing with one track, F 2
-abbrev site : ℕ → ℕ → List ℕ
-site kind mask = 1 ∷ kind ∷ 1 ∷ mask ∷ 2 ∷ 0 ∷ 0 ∷ 0 ∷ []
-
--- the panel after a list of events from fresh
-abbrev shown : List ℕ → List Event → List ℕ
-shown book es = panel (after (read book .plant) es)
+use Rattle.chart.proofs.Words.{ev, a-tick, strike-in, passage, site, shown, release}
+use Rattle.chart.proofs.Release.{carried-269, carried-270, phase-270}
 
 -- bytes 10 and 6: phase and train signal
 abbrev phase-signal : List ℕ → List Event → List ℕ
@@ -52,10 +34,6 @@ closed = closing ++ reports 2 2
 -- bytes 14, 12 and 10: waiting, calling and phase
 abbrev queue-phase : List ℕ → List Event → List ℕ
 queue-phase book es = getD (shown book es) 14 0 ∷ getD (shown book es) 12 0 ∷ getD (shown book es) 10 0 ∷ []
-
--- kind 1: a strike-in, a release and n ticks
-abbrev release : ℕ → List Event
-release n = strike-in ∷ ev 7 0 0 ∷ replicate n a-tick
 
 pub record Chart : Type 0 where
   pub fresh : shown (site 3 0) [] ≡ 1 ∷ 13 ∷ 0 ∷ 0 ∷ 0 ∷ 0 ∷ 1 ∷ 1 ∷ 0 ∷ 1 ∷ 0 ∷ 0 ∷ 0 ∷ 0 ∷ 0 ∷ 0 ∷ []
@@ -97,7 +75,7 @@ chart = record {
   red-dead-stop = refl;
   one-tick = refl;
   flasher-dead = refl;
-  release-269 = refl;
-  release-270 = refl;
-  released = refl;
+  release-269 = carried-269;
+  release-270 = carried-270;
+  released = phase-270;
 }
