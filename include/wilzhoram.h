@@ -4,6 +4,7 @@
  * A refused call gives back the plant it was given and zero counts, and leaves every lent byte as it was.
  * Every field of a plant, settings or event may hold any value: a plant with one outside its range is number 15,
  * settings to write 2 or 3, an event 5 to 8. Padding bytes are no part of a plant: they count nowhere and are not kept.
+ * Number 9, full track, occurs nowhere: a strike-in at 255 trains is taken (T-01, docs/notes/T-01.md).
  * A null pointer with length 0 is an empty slice and gets its number. A sheet and a panel must not overlap.
  * Every call is reentrant, keeps no state and allocates nothing. */
 #ifndef WILZHORAM_H
@@ -35,6 +36,7 @@ typedef struct {
 typedef struct {
     uint8_t calling[4], waiting[4]; /* trains, by track */
     uint8_t route[4], occupied[4];  /* flags, by track */
+    uint8_t unsure[4];              /* flags, by track: struck in at 255 trains, no time release completed since (T-01) */
     uint8_t booms[4];               /* last reports: 0 up, 1 moving, 2 down */
     uint8_t lamps[5];               /* flags, 1 whole: road white, road red, train signal red and white, flasher */
     uint8_t kiosk, operator_hold;   /* flags */
@@ -65,7 +67,7 @@ typedef struct {
 /* What an event gives. */
 typedef struct {
     uint8_t number;
-    uint32_t written; /* trains written off */
+    uint32_t written; /* trains written off: by time releases that this tick completed, or 1 by a strike-in at 255 (T-01) */
     wilzhoram_plant plant;
 } wilzhoram_answer;
 
@@ -74,7 +76,7 @@ typedef struct {
     uint8_t number;
     wilzhoram_plant plant;
     uint16_t taken, refused; /* events */
-    uint32_t written;        /* trains written off */
+    uint32_t written;        /* trains written off, summed over the events */
 } wilzhoram_run_result;
 
 /* Reads a site book: its fresh plant, or number 1, 2 or 3 and the fresh plant of an all-zero site. */
@@ -83,7 +85,7 @@ wilzhoram_reading wilzhoram_read(const uint8_t *book, size_t length);
 /* Writes settings as a site book of 1 + 7n bytes: 0, or number 2, 3 or 14. */
 uint8_t wilzhoram_write(wilzhoram_site site, uint8_t *book, size_t length);
 
-/* Applies one event: the plant after it, or number 5 to 13 or 15. */
+/* Applies one event: the plant after it, or number 5 to 8, 10 to 13 or 15. */
 wilzhoram_answer wilzhoram_event(wilzhoram_plant plant, wilzhoram_event_bytes event);
 
 /* Draws the panel of 16n bytes: 0, or number 14 or 15. */
@@ -96,11 +98,11 @@ wilzhoram_run_result wilzhoram_run(wilzhoram_plant plant, const uint8_t *sheet, 
 /* The stack that a call needs, in bytes: the room for its result and arguments by value, and all that it uses below them.
  * Measured by ci/boundary on a thread with a painted stack, over every number and event code, and rounded up. The C
  * library's memory functions, all that a call calls, are bound when the program starts (-z now, or linked statically). */
-#define WILZHORAM_STACK_READ 768
+#define WILZHORAM_STACK_READ 832
 #define WILZHORAM_STACK_WRITE 320
-#define WILZHORAM_STACK_EVENT 3200
-#define WILZHORAM_STACK_DRAW 1024
-#define WILZHORAM_STACK_RUN 2816
+#define WILZHORAM_STACK_EVENT 3584
+#define WILZHORAM_STACK_DRAW 1088
+#define WILZHORAM_STACK_RUN 3072
 
 #ifdef __cplusplus
 }

@@ -7,7 +7,7 @@
 
 enum { BOOK_MOST = 1 + 7 * 8, SHEET_MOST = 2 + 4 * 4096, PANEL_MOST = 16 * 8, SPOILT = 15 };
 
-/* range.c: document 01, "Site book" and "What the plant holds". */
+/* range.c: document 01, "Site book" and "What the plant holds"; document 02, T-01. */
 unsigned settings_number(const wilzhoram_site *site); /* 0, 2 or 3 */
 bool in_range(const wilzhoram_plant *plant);
 bool same_plant(const wilzhoram_plant *a, const wilzhoram_plant *b); /* field by field */

@@ -1,6 +1,7 @@
 /* Plants of any bytes, handed to every call that takes a plant or its settings. Half are random bytes throughout; half come
- * from a book by random events, with one to three bytes changed, so that plants in range are met as well. Each answer is
- * compared with what document 01 gives; which number from 5 to 13 an event in range gets is left to ci/compare. */
+ * from a book by random events, with one to three bytes changed, so that plants in range are met as well. And plants with
+ * every value of each unsure flag. Each answer is compared with what document 01, amended by T-01, gives; which number of 5
+ * to 8 and 10 to 13 an event in range gets is left to ci/compare. */
 #include "boundary.h"
 #include <stdio.h>
 #include <string.h>
@@ -161,7 +162,7 @@ static void try_all(const wilzhoram_plant *plant) {
     try_call(&write_trial, plant, &after);
 }
 
-/* The bytes whose change leaves the plant the same; 330 bytes are the fields'. */
+/* The bytes whose change leaves the plant the same; 362 bytes are the fields'. */
 static void find_padding(void) {
     static const wilzhoram_plant zero;
     for (size_t i = 0; i < sizeof zero; i++) {
@@ -170,8 +171,27 @@ static void find_padding(void) {
         if (same_plant(&plant, &zero))
             padding[paddings++] = i;
     }
-    if (sizeof zero - paddings != 2 + 8 * 7 + 8 * 34)
-        fail("the fields of a plant are %zu bytes, 330 expected", sizeof zero - paddings);
+    if (sizeof zero - paddings != 2 + 8 * 7 + 8 * 38)
+        fail("the fields of a plant are %zu bytes, 362 expected", sizeof zero - paddings);
+}
+
+/* T-01: every value of the unsure flag of each track in each record, in fresh plants of every size. In range: 0, and 1 on a
+ * track that a crossing has. */
+static unsigned try_unsure(void) {
+    unsigned tried = 0;
+    for (unsigned n = 1; n <= 8; n++) {
+        wilzhoram_plant fresh = random_fresh(n);
+        for (unsigned at = 0; at < 8 * 4 * 256; at++, tried++) {
+            unsigned i = at / 1024, t = at / 256 % 4, value = at % 256;
+            bool there = i < n && t < fresh.site.entries[i].tracks;
+            wilzhoram_plant plant = fresh;
+            plant.crossings[i].unsure[t] = (uint8_t)value;
+            if (in_range(&plant) != (value <= (there ? 1u : 0u)))
+                fail("range.c: value %u of the unsure flag of track %u in record %u of %u", value, t, i, n);
+            try_all(&plant);
+        }
+    }
+    return tried;
 }
 
 int main(void) {
@@ -194,7 +214,9 @@ int main(void) {
             live = changed;
         }
     }
+    unsigned flags = try_unsure();
     printf("boundary: %u plants of random bytes, %u with bytes changed (%lu in range)", PLANTS, PLANTS, kept);
+    printf(", %u with a value in an unsure flag", flags);
     print_tally(&of_event);
     print_tally(&of_draw);
     print_tally(&of_run);

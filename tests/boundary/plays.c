@@ -95,7 +95,8 @@ const measured calls[CALLS] = {
     {&of_run, play_run, UP(sizeof(wilzhoram_run_result)) + PLANT, WILZHORAM_STACK_RUN},
 };
 
-/* n from 1 to 8 in turn, each plant after a random sheet; some are then spoilt, some have a full track. */
+/* n from 1 to 8 in turn, each plant after a random sheet; some are then spoilt, some have a full track, some an unsure one
+ * whose release the next tick completes. */
 static void make_plants(void) {
     static uint8_t sheet[SHEET_MOST];
     for (int i = 0; i < PLANTS; i++) {
@@ -110,6 +111,10 @@ static void make_plants(void) {
         case 3:
             plants[i].crossings[0].calling[0] = 255;
             plants[i].crossings[0].waiting[0] = 0;
+            break;
+        case 4:
+            plants[i].crossings[n - 1].unsure[0] = 1;
+            plants[i].crossings[n - 1].countdown = 1;
         }
     }
 }

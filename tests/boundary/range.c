@@ -1,4 +1,4 @@
-/* The ranges of settings and plant, from document 01 alone. */
+/* The ranges of settings and plant, from document 01 and request T-01 of document 02 alone. */
 #include "boundary.h"
 #include <string.h>
 
@@ -9,9 +9,10 @@ static bool same_entry(const wilzhoram_entry *a, const wilzhoram_entry *b) {
 static bool same_crossing(const wilzhoram_crossing *a, const wilzhoram_crossing *b) {
     return memcmp(a->calling, b->calling, sizeof a->calling) == 0 && memcmp(a->waiting, b->waiting, sizeof a->waiting) == 0
         && memcmp(a->route, b->route, sizeof a->route) == 0 && memcmp(a->occupied, b->occupied, sizeof a->occupied) == 0
-        && memcmp(a->booms, b->booms, sizeof a->booms) == 0 && memcmp(a->lamps, b->lamps, sizeof a->lamps) == 0
-        && a->kiosk == b->kiosk && a->operator_hold == b->operator_hold && a->countdown == b->countdown
-        && a->phase == b->phase && a->timer == b->timer && a->out == b->out;
+        && memcmp(a->unsure, b->unsure, sizeof a->unsure) == 0 && memcmp(a->booms, b->booms, sizeof a->booms) == 0
+        && memcmp(a->lamps, b->lamps, sizeof a->lamps) == 0 && a->kiosk == b->kiosk
+        && a->operator_hold == b->operator_hold && a->countdown == b->countdown && a->phase == b->phase
+        && a->timer == b->timer && a->out == b->out;
 }
 
 bool same_plant(const wilzhoram_plant *a, const wilzhoram_plant *b) {
@@ -40,7 +41,7 @@ unsigned settings_number(const wilzhoram_site *site) {
 static bool track_in(const wilzhoram_entry *e, const wilzhoram_crossing *c, int t) {
     int most = t < e->tracks ? 255 : 0, flag = t < e->tracks ? 1 : 0, dependent = e->mask >> t & 1;
     return c->calling[t] + c->waiting[t] <= most && (dependent || c->waiting[t] == 0) && c->route[t] <= dependent
-        && c->occupied[t] <= flag;
+        && c->occupied[t] <= flag && c->unsure[t] <= flag;
 }
 
 static bool phase_in(const wilzhoram_entry *e, unsigned phase, unsigned timer) {

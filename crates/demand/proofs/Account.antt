@@ -9,14 +9,14 @@ use Rattle.machine.specs.Common.{bit, sum4}
 use Rattle.machine.specs.declared.Entry.{Entry}
 use Rattle.machine.specs.declared.Crossing.{Crossing}
 use Rattle.machine.specs.declared.Event.{Event}
-use Rattle.machine.specs.Plant.{calling, waiting, trains, total}
+use Rattle.machine.specs.Plant.{calling, waiting, trains, is-full, total}
 use Rattle.machine.specs.Events.{is, is-at, on-track}
-use Rattle.machine.specs.Effects.{calling-after, waiting-after, act, releases, tick, written-at}
+use Rattle.machine.specs.Effects.{sweeps, calling-after, waiting-after, act, releases, tick}
 use Rattle.machine.specs.Settling.{settle}
-use Rattle.machine.proofs.Tools.{below4}
+use Rattle.machine.proofs.Tools.{and-both, below4}
 use Rattle.machine.proofs.Trains.{trains-after}
 use Rattle.demand.specs.Ledger.{count, State, trains as all-trains, next}
-use Rattle.demand.proofs.Agree.{Agree}
+use Rattle.demand.proofs.Agree.{Agree, same-sweep}
 
 -- a mark at one place of four
 one-hot : (b : Bool) (place : ℕ) → (b ≡ true → place < 4) → sum4 (λ t. bit (b && eqb place t) 1) ≡ bit b 1
@@ -27,36 +27,50 @@ one-hot false place f = refl
 abbrev pub Even : Crossing → State → List Event → Type 0
 Even c k h = count 1 h ≡ count 2 h + k .written + total c
 
-module _ (s : Entry) (i : ℕ) {c : Crossing} {k : State} (a : Agree c k) (e : Event) where
-  -- what the ledger writes off for an event is what the machine does
-  pub written-more : next s e k .written ≡ k .written + written-at s i c e
-  unfolding next written-at
-  written-more = rw (same, ← a .countdown)
-    where
-      at : (t : ℕ) → t < 4 → k .queue t .calling + k .queue t .waiting ≡ trains c t
-      at t b = sym (ap (λ q. q .calling + q .waiting) (a .queue t b))
-
-      same : all-trains k ≡ total c
-      same = omega (arith, at 0 (lit< tt), at 1 (lit< tt), at 2 (lit< tt), at 3 (lit< tt))
-
+module _ (s : Entry) {c : Crossing} {k : State} (a : Agree c k) (e : Event) where
   -- an event of this crossing: at a track where its code asks for one, and a passage of a train that is there
   module _ (not-tick : is 0 e ≡ false) (placed : (k : ℕ) → on-track k ≡ true → is k e ≡ true → e .place < 4) (there : is 2 e ≡ true → 0 < trains c (e .place)) where
-    own-total : total (act s c e) + bit (is 2 e) 1 ≡ total c + bit (is 1 e) 1
+    -- what the ledger writes off for it is what the machine does: 1 where it sweeps
+    pub own-written : next s e k .written ≡ k .written + bit (sweeps c e) 1
+    unfolding next
+    own-written = rw (not-tick, ← same-sweep s a e (placed 1 refl)) (omega arith)
+
+    own-total : total (act s c e) + bit (is 2 e) 1 + bit (sweeps c e) 1 ≡ total c + bit (is 1 e) 1
     unfolding act
-    own-total = omega (arith, at 0, at 1, at 2, at 3, one-hot (is 1 e) (e .place) (placed 1 refl), one-hot (is 2 e) (e .place) (placed 2 refl))
+    own-total = omega (
+      arith,
+      at 0,
+      at 1,
+      at 2,
+      at 3,
+      one-hot (is 1 e) (e .place) (placed 1 refl),
+      one-hot (is 2 e) (e .place) (placed 2 refl),
+      one-hot (sweeps c e) (e .place) (λ q. placed 1 refl (and-both (is 1 e) (is-full c (e .place)) q .0)),
+    )
       where
-        at : (t : ℕ) → calling-after s c e t + waiting-after s c e t + bit (is-at 2 t e) 1 ≡ trains c t + bit (is-at 1 t e) 1
+        at : (t : ℕ) → calling-after s c e t + waiting-after s c e t + bit (is-at 2 t e) 1 + bit (sweeps c e && eqb (e .place) t) 1 ≡ trains c t + bit (is-at 1 t e) 1
         at t = trains-after s c e t there
 
     pub own-even : (h : List Event) → Even c k h → Even (settle s 0 (act s c e)) (next s e k) (e ∷ h)
-    unfolding count settle written-at
-    own-even h v = let w = rw not-tick at written-more in omega (arith, own-total)
+    unfolding count settle
+    own-even h v = omega (arith, own-written, own-total)
 
   -- a tick
   module _ (z : e .code ≡ 0) where
-    tick-total : total (tick s c) + written-at s i c e ≡ total c
-    unfolding tick written-at
-    tick-total = rw z (both (releases c))
+    -- what the ledger writes off is what the machine does: every train where a release completes
+    pub tick-written : next s e k .written ≡ k .written + bit (releases c) (total c)
+    unfolding next
+    tick-written = rw (z, same, ← a .countdown) (omega arith)
+      where
+        at : (t : ℕ) → t < 4 → k .queue t .calling + k .queue t .waiting ≡ trains c t
+        at t b = sym (ap (λ q. q .calling + q .waiting) (a .queue t b))
+
+        same : all-trains k ≡ total c
+        same = omega (arith, at 0 (lit< tt), at 1 (lit< tt), at 2 (lit< tt), at 3 (lit< tt))
+
+    tick-total : total (tick s c) + bit (releases c) (total c) ≡ total c
+    unfolding tick
+    tick-total = both (releases c)
       where
         both : (r : Bool) → sum4 (λ t. cond r 0 (calling c t) + cond r 0 (waiting c t)) + bit r (total c) ≡ total c
         both true = omega arith
@@ -67,4 +81,4 @@ module _ (s : Entry) (i : ℕ) {c : Crossing} {k : State} (a : Agree c k) (e : E
     tick-even h v =
         let no-strike-in : is 1 e ≡ false = rw z in
         let no-passage : is 2 e ≡ false = rw z in
-        rw (no-strike-in, no-passage) (omega (arith, tick-total, written-more))
+        rw (no-strike-in, no-passage) (omega (arith, tick-total, tick-written))

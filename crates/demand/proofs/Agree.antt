@@ -9,13 +9,13 @@ use Rattle.machine.specs.Common.{bit}
 use Rattle.machine.specs.declared.Entry.{Entry}
 use Rattle.machine.specs.declared.Crossing.{Crossing}
 use Rattle.machine.specs.declared.Event.{Event}
-use Rattle.machine.specs.Plant.{calling, waiting, route-flag, boom, lamp-flag, dependent, reason}
+use Rattle.machine.specs.Plant.{calling, waiting, route-flag, unsure-flag, boom, lamp-flag, dependent, reason}
 use Rattle.machine.specs.Events.{is, is-at}
-use Rattle.machine.specs.Effects.{calls, calling-after, waiting-after, cancels, act, releases, tick}
+use Rattle.machine.specs.Effects.{calls, sweeps, calling-after, waiting-after, unsure-after, cancels, act, releases, tick}
 use Rattle.machine.specs.Settling.{settle}
-use Rattle.machine.proofs.Tools.{getD-tab, each-tab}
+use Rattle.machine.proofs.Tools.{by-test, getD-tab, each-tab}
 use Rattle.demand.specs.Words.{depends}
-use Rattle.demand.specs.Ledger.{Queue, empty, joined, gone, moved, State, stands, queue-next, countdown-next, next}
+use Rattle.demand.specs.Ledger.{Queue, empty, joined, gone, moved, State, stands, swept, queue-next, unsure-next, countdown-next, next}
 
 abbrev pub queue-of : Crossing → ℕ → Queue
 queue-of c t = record { calling = calling c t; waiting = waiting c t }
@@ -26,31 +26,41 @@ pub record Agree (c : Crossing) (k : State) : Type 0 where
   pub countdown : c .countdown ≡ k .countdown
   pub route : (t : ℕ) → t < 4 → route-flag c t ≡ k .route t
   pub queue : (t : ℕ) → t < 4 → queue-of c t ≡ k .queue t
+  pub unsure : (t : ℕ) → t < 4 → unsure-flag c t ≡ k .unsure t
   pub boom : (b : ℕ) → b < 4 → boom c b ≡ k .boom b
   pub lamp : (l : ℕ) → l < 5 → lamp-flag c l ≡ k .lamp l
 
--- the machine's two fields against the ledger's one queue: strike-in, passage, route set, or another event
-queue-law : (b1 b2 b5 r : Bool) (c w : ℕ) →
+-- the machine's two fields against the ledger's one queue: swept strike-in, strike-in, passage, route set, or another event
+queue-law : (b0 b1 b2 b5 r : Bool) (c w : ℕ) →
     _≡_ {A = Queue} (record {
-      calling = cond b1 (c + bit r 1) (cond b2 (pred c) (cond b5 (c + w) c));
-      waiting = cond b1 (w + bit (not r) 1) (cond b2 (w - bit (eqb c 0) 1) (cond b5 0 w));
+      calling = cond b0 c (cond b1 (c + bit r 1) (cond b2 (pred c) (cond b5 (c + w) c)));
+      waiting = cond b0 w (cond b1 (w + bit (not r) 1) (cond b2 (w - bit (eqb c 0) 1) (cond b5 0 w)));
     })
-    (let q : Queue = record { calling = c; waiting = w } in cond b1 (joined r q) (cond b2 (gone q) (cond b5 (moved q) q)))
+    (let q : Queue = record { calling = c; waiting = w } in cond b0 q (cond b1 (joined r q) (cond b2 (gone q) (cond b5 (moved q) q))))
 unfolding joined gone moved
-queue-law true b2 b5 true c w = rw add-zero
-queue-law true b2 b5 false c w = rw add-zero
-queue-law false true b5 r zero w = let z : w - 1 ≡ pred w = omega arith in rw z
-queue-law false true b5 r (suc c) w = rw (eqb·suc-zero, sub-zero)
-queue-law false false true r c w = refl
-queue-law false false false r c w = refl
+queue-law true b1 b2 b5 r c w = refl
+queue-law false true b2 b5 true c w = rw add-zero
+queue-law false true b2 b5 false c w = rw add-zero
+queue-law false false true b5 r zero w = let z : w - 1 ≡ pred w = omega arith in rw z
+queue-law false false true b5 r (suc c) w = rw (eqb·suc-zero, sub-zero)
+queue-law false false false true r c w = refl
+queue-law false false false false r c w = refl
 
 module _ (s : Entry) {c : Crossing} {k : State} (a : Agree c k) (e : Event) where
+  -- a strike-in at one of four tracks finds it full in both
+  pub same-sweep : (is 1 e ≡ true → e .place < 4) → sweeps c e ≡ swept e k
+  same-sweep placed = by-test (is 1 e) (λ q. rw (q, ← a .queue (e .place) (placed q))) (λ q. rw q)
+
   -- an event of this crossing
-  module _ (not-tick : is 0 e ≡ false) where
+  module _ (not-tick : is 0 e ≡ false) (placed : is 1 e ≡ true → e .place < 4) where
     own-queue : (t : ℕ) → t < 4 → queue-of (act s c e) t ≡ queue-next s e k t
     unfolding act queue-next calling-after waiting-after dependent depends
-    own-queue t b = rw (getD-tab 4 (calling-after s c e) 0 t b, getD-tab 4 (waiting-after s c e) 0 t b, not-tick, ← a .route t b, ← a .queue t b)
-        (queue-law (is-at 1 t e) (is-at 2 t e) (is-at 5 t e && eqb (e .value) 1) (calls s c t) (calling c t) (waiting c t))
+    own-queue t b = rw (getD-tab 4 (calling-after s c e) 0 t b, getD-tab 4 (waiting-after s c e) 0 t b, not-tick, ← same-sweep placed, ← a .route t b, ← a .queue t b)
+        (queue-law (sweeps c e) (is-at 1 t e) (is-at 2 t e) (is-at 5 t e && eqb (e .value) 1) (calls s c t) (calling c t) (waiting c t))
+
+    own-unsure : (t : ℕ) → t < 4 → unsure-after c e t ≡ unsure-next e k t
+    unfolding unsure-after unsure-next
+    own-unsure t b = rw (not-tick, ← same-sweep placed, ← a .unsure t b)
 
     pub own-agree : Agree (settle s 0 (act s c e)) (next s e k)
     unfolding settle act next countdown-next cancels
@@ -60,6 +70,7 @@ module _ (s : Entry) {c : Crossing} {k : State} (a : Agree c k) (e : Event) wher
       countdown = rw (not-tick, a .countdown);
       route = each-tab 4 _ 0 (λ t x. x ≡ next s e k .route t) (λ t b. ap (cond (is-at 5 t e) (e .value)) (a .route t b));
       queue = own-queue;
+      unsure = each-tab 4 _ 0 (λ t x. x ≡ next s e k .unsure t) own-unsure;
       boom = each-tab 4 _ 0 (λ b x. x ≡ next s e k .boom b) (λ b l. ap (cond (is-at 8 b e) (e .value)) (a .boom b l));
       lamp = each-tab 5 _ 0 (λ l x. x ≡ next s e k .lamp l) (λ l b. ap (cond (is-at 9 l e) (e .value)) (a .lamp l b));
     }
@@ -74,6 +85,10 @@ module _ (s : Entry) {c : Crossing} {k : State} (a : Agree c k) (e : Event) wher
         both true = refl
         both false = refl
 
+    tick-unsure : (t : ℕ) → t < 4 → cond (releases c) 0 (unsure-flag c t) ≡ unsure-next e k t
+    unfolding unsure-next
+    tick-unsure t b = rw (z, ← a .countdown, ← a .unsure t b)
+
     pub tick-agree : Agree (settle s 1 (tick s c)) (next s e k)
     unfolding settle tick next countdown-next
     tick-agree = record {
@@ -82,6 +97,7 @@ module _ (s : Entry) {c : Crossing} {k : State} (a : Agree c k) (e : Event) wher
       countdown = rw (z, a .countdown);
       route = λ t b. rw z (a .route t b);
       queue = tick-queue;
+      unsure = each-tab 4 _ 0 (λ t x. x ≡ next s e k .unsure t) tick-unsure;
       boom = λ b l. rw z (a .boom b l);
       lamp = λ l b. rw z (a .lamp l b);
     }
@@ -90,6 +106,10 @@ module _ (s : Entry) {c : Crossing} {k : State} (a : Agree c k) (e : Event) wher
 pub reason-stands : {c : Crossing} {k : State} → Agree c k → reason c ≡ stands k
 unfolding reason stands
 reason-stands {c} {k} a = λ i. eqb (a .kiosk i) 1 || eqb (a .operator i) 1 || (calls 0 (lit< tt) i || calls 1 (lit< tt) i || calls 2 (lit< tt) i || calls 3 (lit< tt) i)
+    || (marks 0 (lit< tt) i || marks 1 (lit< tt) i || marks 2 (lit< tt) i || marks 3 (lit< tt) i)
   where
     calls : (t : ℕ) → t < 4 → ltb 0 (calling c t) ≡ ltb 0 (k .queue t .calling)
     calls t b = ap (λ q. ltb 0 (q .calling)) (a .queue t b)
+
+    marks : (t : ℕ) → t < 4 → eqb (unsure-flag c t) 1 ≡ eqb (k .unsure t) 1
+    marks t b = ap (λ x. eqb x 1) (a .unsure t b)

@@ -1,7 +1,7 @@
--- Demand 3, proved: the three parts at one crossing, then the claim for every book and every list.
+-- Demand 3, proved: the parts at one crossing, then the claim for every book and every list.
 use mathlib.Core.Path.{_≡_, refl, sym, _∙_, ap}
 use mathlib.Core.Logic.{⊎-elim}
-use mathlib.Core.Bool.{Bool, true, false, cond, not, _||_, true≢false}
+use mathlib.Core.Bool.{Bool, true, false, cond, not, _||_, true≢false, or-true}
 use mathlib.Core.List.{List}
 use Prim.Native.Nat.{ℕ, _%_, _≤_, _<_}
 use native.Mathlib.Omega.{arith}
@@ -24,6 +24,7 @@ use Rattle.machine.proofs.Taken.{step-site}
 use Rattle.machine.proofs.Ranges.{PlantIn, plant-reads}
 use Rattle.machine.proofs.Laws.{fresh-in-range, panel-at}
 use Rattle.demand.specs.Words.{all-up, all-closed}
+use Rattle.demand.specs.Ledger.{stands, some-unsure}
 use Rattle.demand.specs.Demand.{known, stands-after, Unbroken, needed, shown, a-tick, Closed, Kept, Demand}
 use Rattle.demand.proofs.Unbroken.{stands-now, at-least}
 use Rattle.demand.proofs.Timing.{rests, all-down}
@@ -31,7 +32,7 @@ use Rattle.demand.proofs.Agree.{reason-stands}
 use Rattle.demand.proofs.Each.{Holds, no-timer}
 use Rattle.demand.proofs.Answers.{crossing-after, tick-taken}
 use Rattle.demand.proofs.Run.{same-sum, Sound, sound}
-use Rattle.demand.proofs.Shown.{passable-secured, released-secured, right-up, left-up, opened, normal-bit}
+use Rattle.demand.proofs.Shown.{passable-secured, released-secured, right-up, left-up, opened, normal-bit, closed-bit}
 
 -- One crossing ---------------------------------------------------------------------------------------------------------------------
 -- byte j of crossing i in a plant with the site of p
@@ -85,6 +86,11 @@ module _ (p : Plant) (es : List Event) (k : Sound p es) (i : ℕ) (l : i < p .si
         let now = crossing-after q a-tick t i (omega (arith, range .count, ap (λ x. x .n) (k .site))) in
         rw (byte, now, same) (normal-bit s (settle s 1 (tick s c)) (opened s c at-rest (no-timer-in rests refl refl at-rest) (reason-stands (at .agree) ∙ none) (booms-same (λ x. eqb x 0) ∙ up)))
 
+  -- an unsure track is a reason
+  marked : some-unsure (known p i es) ≡ true → stands-after p i es ≡ true
+  unfolding stands
+  marked m = rw (m, or-true)
+
   pub kept : Kept p es i
   unfolding row
   kept = record {
@@ -97,6 +103,7 @@ module _ (p : Plant) (es : List Event) (k : Sound p es) (i : ℕ) (l : i < p .si
       left = shows p q (k .site) i 5 l (lit< tt) ∙ left-up s c (at-rest none);
       normal = after-tick none;
     };
+    unsure = λ m. rw (shows p q (k .site) i 9 l (lit< tt)) (closed-bit s c (at .closing (marked m)));
   }
 
 -- The claim ------------------------------------------------------------------------------------------------------------------------

@@ -2,9 +2,10 @@
 use mathlib.Core.Path.{_≡_, refl, _∙_, ap}
 use mathlib.Core.Bool.{true, false}
 use mathlib.Core.List.{List, [], _∷_, _++_}
-use Prim.Native.Nat.{ℕ, zero, suc, _+_, _<_}
+use Prim.Native.Nat.{ℕ, zero, suc, _+_, _≤_, _<_}
 use native.Mathlib.Omega.{arith}
 use native.Mathlib.Nat.{add-zero}
+use lib.Dec.{eqb}
 use lib.ListN.{getD}
 use Rattle.machine.specs.Common.{sum-below}
 use Rattle.machine.specs.declared.Plant.{Plant}
@@ -12,9 +13,9 @@ use Rattle.machine.specs.declared.Event.{Event}
 use Rattle.machine.specs.Plant.{entry, crossing, no-entry, fresh-crossing}
 use Rattle.machine.specs.Range.{in-range}
 use Rattle.machine.specs.Effects.{written-at}
-use Rattle.machine.specs.Step.{written, step, after, carried}
+use Rattle.machine.specs.Step.{step, after, carried}
 use Rattle.machine.proofs.Tools.{by-test, sum-add, sum-same, sum-past}
-use Rattle.machine.proofs.Taken.{step-site, taken-accepted}
+use Rattle.machine.proofs.Taken.{Accepted, step-site, taken-accepted}
 use Rattle.machine.proofs.Ranges.{plant-reads, entry-of}
 use Rattle.machine.proofs.Stays.{stays-in-range}
 use Rattle.demand.specs.Words.{sum-over}
@@ -75,6 +76,8 @@ module _ (p : Plant) where
     taken-more t =
         let g = plant-reads q (k .range) in
         let n : q .site .n ≡ p .site .n = ap (λ x. x .n) (k .site) in
+        let few : (i : ℕ) → i < q .site .n → entry p i .tracks ≤ 4 = (λ i l. rw (same-entry i) at (entry-of g i l .tracks)) in
+        let own : (i : ℕ) → eqb (e .crossing) i ≡ true → Accepted (q .site .n) (entry p i) (crossing q i) e = (λ i o. rw (same-entry i) at (taken-accepted q e (zero-number q e t) i o)) in
         record {
           site = rw now (step-site q e ∙ k .site);
           range = still-in;
@@ -82,9 +85,8 @@ module _ (p : Plant) where
               let l : i < q .site .n = rw n b in
               let same = same-entry i in
               let c = crossing-after q e t i (omega (arith, g .count)) in
-              rw (now, c, same) (touched p es e i (crossing q i) (k .each i b) t
-              (rw same at (g .used i l .phase)) (rw same at (entry-of g i l .tracks)) (λ o. rw same at (taken-accepted q e (zero-number q e t) i o)));
-          sum = sum-same (p .site .n) _ (λ i. known p i es .written + written-at (entry p i) i (crossing q i) e) (λ i b. written-touched p es e i (crossing q i) (k .each i b) t)
+              rw (now, c, same) (touched p es e i (crossing q i) (k .each i b) t (rw same at (g .used i l .phase)) (few i l) (own i));
+          sum = sum-same (p .site .n) _ (λ i. known p i es .written + written-at (entry p i) i (crossing q i) e) (λ i b. written-touched p es e i (crossing q i) (k .each i b) t (few i (rw n b)) (own i))
               ∙ sum-add (p .site .n) (λ i. known p i es .written) (λ i. written-at (entry p i) i (crossing q i) e)
               ∙ omega (arith, carries, taken-written q e t g, ap (λ x. sum-below (x .n) (λ i. written-at (getD (x .entries) i no-entry) i (crossing q i) e)) (k .site), k .sum);
         }

@@ -9,7 +9,7 @@ use borrow.Author.Tests.{eqb-true}
 use Rattle.machine.specs.Common.{bit}
 use Rattle.machine.specs.declared.Entry.{Entry}
 use Rattle.machine.specs.declared.Crossing.{Crossing}
-use Rattle.machine.specs.Plant.{overdue-ticks, calling, boom, lamp, kiosk, operator, reason-of, reason, booms-up, normal, secured}
+use Rattle.machine.specs.Plant.{is-on, overdue-ticks, calling, unsure-flag, boom, lamp, kiosk, operator, reason-of, reason, booms-up, normal, secured}
 use Rattle.machine.specs.Effects.{releases, tick}
 use Rattle.machine.specs.Settling.{phase-settled, settle}
 use Rattle.machine.specs.Panel.{signal, right-down, left-down, released, releases-shown, status}
@@ -31,8 +31,8 @@ module _ (s : Entry) (c : Crossing) where
   unfolding reason tick
   tick-reason q = go (releases c)
     where
-      go : (r : Bool) → reason-of (kiosk c) (operator c) (λ t. cond r 0 (calling c t)) ≡ false
-      go true = rw (neither (kiosk c || operator c) _ q .0)
+      go : (r : Bool) → reason-of (kiosk c) (operator c) (λ t. cond r 0 (calling c t)) (λ t. is-on (cond r 0 (unsure-flag c t))) ≡ false
+      go true = rw (neither (kiosk c || operator c) _ (neither (kiosk c || operator c || _) _ q .0) .0)
       go false = q
 
   module _ (r : rests (c .phase) ≡ true) where
@@ -61,3 +61,14 @@ module _ (s : Entry) (c : Crossing) where
       odd true false = refl
       odd false true = refl
       odd false false = refl
+
+  -- out of phase 0 the normal bit is clear
+  pub closed-bit : eqb (c .phase) 0 ≡ false → status s c % 2 ≡ 0
+  unfolding status normal
+  closed-bit q = rw q (even (secured s c) (ltb overdue-ticks (c .out)))
+    where
+      even : (a b : Bool) → (0 + bit a 2 + bit b 4) % 2 ≡ 0
+      even true true = refl
+      even true false = refl
+      even false true = refl
+      even false false = refl

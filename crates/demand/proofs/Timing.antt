@@ -63,6 +63,14 @@ module _ (kind phase : ℕ) (up : Bool) where
       (λ _. by-cond (λ x. rests x ≡ true) up (λ _. refl) (λ _. refl))
       (λ _. by-cond (λ x. rests x ≡ true) (lights-only kind) (λ _. refl) (λ _. refl)))
 
+  -- where one stands a crossing does not stay open
+  pub stands-closes : eqb (phase-settled kind true up phase) 0 ≡ false
+  unfolding phase-settled
+  stands-closes = by-cond (λ x. eqb x 0 ≡ false) (eqb phase 0 || eqb phase 1) (λ _. refl) (λ q.
+      by-cond (λ x. eqb x 0 ≡ false) (eqb phase 4)
+      (λ _. by-cond (λ x. eqb x 0 ≡ false) up (λ _. refl) (λ _. refl))
+      (λ _. neither (eqb phase 0) (eqb phase 1) q .0))
+
   -- where one stands a crossing that does not rest stays as it is
   stands-keeps : rests phase ≡ false → phase-settled kind true up phase ≡ phase
   unfolding phase-settled

@@ -1,4 +1,5 @@
--- Demand 3, one claim about every list of events from the fresh plant of a book: the train account, the passage rule and the opening tick.
+-- Demand 3, one claim about every list of events from the fresh plant of a book: the train account, the passage rule, the opening tick and,
+-- with T-01, the unsure track.
 use mathlib.Core.Path.{_≡_}
 use mathlib.Core.Logic.{_⊎_}
 use mathlib.Core.Bool.{Bool, true, false}
@@ -15,7 +16,7 @@ use Rattle.machine.specs.Step.{step, after, carried}
 use Rattle.machine.specs.Panel.{panel}
 use Rattle.machine.specs.SiteBook.{read}
 use Rattle.demand.specs.Words.{bit, sum4, sum-over, all-up, all-closed}
-use Rattle.demand.specs.Ledger.{taken, log, ticks, strike-ins, passages, State, stands, state}
+use Rattle.demand.specs.Ledger.{taken, log, ticks, strike-ins, passages, State, some-unsure, stands, state}
 
 -- p is the plant before the list es, and i a crossing of it ------------------------------------------------------------------------
 -- what is known of crossing i after the list
@@ -50,7 +51,7 @@ there c = sum4 (λ t. getD (c .calling) t 0 + getD (c .waiting) t 0)
 abbrev pub a-tick : Event
 a-tick = record { code = 0; crossing = 0; place = 0; value = 0 }
 
--- The three parts ------------------------------------------------------------------------------------------------------------------
+-- The parts ------------------------------------------------------------------------------------------------------------------------
 -- train account: strike-ins taken = passages taken + trains written off + calling and waiting of the plant after the list
 abbrev pub Account : Plant → List Event → ℕ → Type 0
 Account p es i =
@@ -77,14 +78,19 @@ pub record Opens (p : Plant) (es : List Event) (i : ℕ) : Type 0 where
 abbrev pub Opening : Plant → List Event → ℕ → Type 0
 Opening p es i = stands-after p i es ≡ false → Opens p es i
 
--- the three, per crossing
+-- unsure track (T-01): a crossing that has one does not show the normal bit
+abbrev pub Unsure : Plant → List Event → ℕ → Type 0
+Unsure p es i = some-unsure (known p i es) ≡ true → shown (after p es) i 9 % 2 ≡ 0
+
+-- the parts, per crossing
 pub record Kept (p : Plant) (es : List Event) (i : ℕ) : Type 0 where
   pub account : Account p es i
   pub passage : Passage p es i
   pub opening : Opening p es i
+  pub unsure : Unsure p es i
 
 -- The claim ------------------------------------------------------------------------------------------------------------------------
--- at each crossing the three parts; over all crossings the trains written off add up to what the answers carry; and a further tick is taken
+-- at each crossing the parts; over all crossings the trains written off add up to what the answers carry; and a further tick is taken
 pub record Demand-3 (p : Plant) (es : List Event) : Type 0 where
   pub each : (i : ℕ) → i < p .site .n → Kept p es i
   pub sum : sum-over (p .site .n) (λ i. known p i es .written) ≡ carried p es

@@ -1,8 +1,9 @@
--- The ledger of a crossing: what the rules of document 01 make of its taken events, worked out from the list and not read from the plant.
+-- The ledger of a crossing: what the rules of document 01, amended by T-01, make of its taken events, worked out from the list and not read
+-- from the plant.
 use mathlib.Core.Bool.{Bool, cond, not, _&&_, _||_}
 use mathlib.Core.List.{List, [], _∷_, _++_}
 use Prim.Native.Nat.{ℕ, _+_, pred}
-use lib.Dec.{eqb, ltb}
+use lib.Dec.{eqb, ltb, leb}
 use Rattle.machine.specs.declared.Entry.{Entry}
 use Rattle.machine.specs.declared.Plant.{Plant}
 use Rattle.machine.specs.declared.Event.{Event}
@@ -67,10 +68,11 @@ unfoldable pub moved : Queue → Queue
 moved q = record { calling = q .calling + q .waiting; waiting = 0 }
 
 -- What a crossing is known to hold -----------------------------------------------------------------------------------------------
--- the queue of each track; the value of the last event that set a route, reported a boom or a lamp, or put a hold on or off; the release
--- countdown; the trains written off
+-- the queue of each track; 1 where a track is unsure (T-01); the value of the last event that set a route, reported a boom or a lamp, or put
+-- a hold on or off; the release countdown; the trains written off
 pub record State : Type 0 where
   pub queue : ℕ → Queue
+  pub unsure : ℕ → ℕ
   pub route : ℕ → ℕ
   pub boom : ℕ → ℕ
   pub lamp : ℕ → ℕ
@@ -79,31 +81,44 @@ pub record State : Type 0 where
   pub countdown : ℕ
   pub written : ℕ
 
--- before any event: no trains, routes or holds, every boom up, every lamp whole
+-- before any event: no trains, routes or holds, no track unsure, every boom up, every lamp whole
 abbrev pub start : State
-start = record { queue = λ t. empty; route = λ t. 0; boom = λ b. 0; lamp = λ l. 1; kiosk = 0; operator = 0; countdown = 0; written = 0 }
+start = record { queue = λ t. empty; unsure = λ t. 0; route = λ t. 0; boom = λ b. 0; lamp = λ l. 1; kiosk = 0; operator = 0; countdown = 0; written = 0 }
 
 -- the trains of all tracks
 abbrev pub trains : State → ℕ
 trains k = sum4 (λ t. k .queue t .calling + k .queue t .waiting)
 
--- a reason stands: some track is calling or a hold is on
+-- some track is unsure (T-01)
+abbrev pub some-unsure : State → Bool
+some-unsure k = some-track (λ t. eqb (k .unsure t) 1)
+
+-- a reason stands: some track is calling or a hold is on, or some track is unsure (T-01)
 unfoldable pub stands : State → Bool
-stands k = eqb (k .kiosk) 1 || eqb (k .operator) 1 || some-track (λ t. ltb 0 (k .queue t .calling))
+stands k = eqb (k .kiosk) 1 || eqb (k .operator) 1 || some-track (λ t. ltb 0 (k .queue t .calling)) || some-unsure k
 
 -- One more event -------------------------------------------------------------------------------------------------------------------
 -- a release completes: the tick on which a running countdown reaches 0
 abbrev pub completes : Event → State → Bool
 completes e k = is 0 e && eqb (k .countdown) 1
 
--- a completed release clears a track; a strike-in calls on a plain track or with the route set
+-- a swept strike-in (T-01): its track has 255 trains already
+abbrev pub swept : Event → State → Bool
+swept e k = is 1 e && leb 255 (k .queue (e .place) .calling + k .queue (e .place) .waiting)
+
+-- a completed release clears a track; a swept strike-in leaves the counts (T-01); a strike-in calls on a plain track or with the route set
 unfoldable pub queue-next : Entry → Event → State → ℕ → Queue
 queue-next s e k t =
     cond (completes e k) empty
+    (cond (swept e k) (k .queue t)
     (cond (is-at 1 t e) (joined (not (depends s t) || eqb (k .route t) 1) (k .queue t))
     (cond (is-at 2 t e) (gone (k .queue t))
     (cond (is-at 5 t e && eqb (e .value) 1) (moved (k .queue t))
-    (k .queue t))))
+    (k .queue t)))))
+
+-- a completed release leaves no track unsure; a swept strike-in makes its own so (T-01)
+unfoldable pub unsure-next : Event → State → ℕ → ℕ
+unsure-next e k t = cond (completes e k) 0 (cond (swept e k && eqb (e .place) t) 1 (k .unsure t))
 
 -- a tick lowers the countdown, a time release sets it to 270; a strike-in, a hold on, a route set or an approach occupied make it 0
 unfoldable pub countdown-next : Event → ℕ → ℕ
@@ -113,17 +128,19 @@ countdown-next e n =
     (cond (is 1 e || is-to 3 1 e || is-to 4 1 e || is-to 5 1 e || is-to 6 1 e) 0
     n))
 
--- a hold, a route or a report is what the last event of its code says; the trains that a completed release clears are written off
+-- a hold, a route or a report is what the last event of its code says; the trains that a completed release clears are written off, and so is
+-- that of a swept strike-in (T-01)
 unfoldable pub next : Entry → Event → State → State
 next s e k = record {
   queue = queue-next s e k;
+  unsure = unsure-next e k;
   route = λ t. cond (is-at 5 t e) (e .value) (k .route t);
   boom = λ b. cond (is-at 8 b e) (e .value) (k .boom b);
   lamp = λ l. cond (is-at 9 l e) (e .value) (k .lamp l);
   kiosk = cond (is 3 e) (e .value) (k .kiosk);
   operator = cond (is 4 e) (e .value) (k .operator);
   countdown = countdown-next e (k .countdown);
-  written = k .written + bit (completes e k) (trains k);
+  written = k .written + bit (completes e k) (trains k) + bit (swept e k) 1;
 }
 
 -- over a log, event by event

@@ -1,10 +1,13 @@
-// What a taken event of codes 1 to 9 does to its own crossing (document 01, "Events").
-// Each function here is for other functions and crates alone: it requires what a taken event of a crossing in range has.
+// What a taken event of codes 1 to 9 does to its own crossing and writes off there (document 01, "Events"; document 02, T-01).
+// Each function here is for other functions and crates alone: all but `written_off` require what a taken event of a
+// crossing in range has.
 use machine::Crossing;
 use machine::Entry;
 use machine::Event;
 ghost use mathlib.Core.Path.{_≡_};
-ghost use Rattle.machine.specs.Effects.{act};
+ghost use Prim.Native.Nat.{_≤_};
+ghost use Rattle.machine.specs.Common.{bit};
+ghost use Rattle.machine.specs.Effects.{act, sweeps};
 ghost use Rattle.machine.specs.Settling.{settle};
 ghost use Rattle.train.specs.Room.{Room};
 
@@ -104,6 +107,21 @@ fn act(s: Entry, c: Crossing, e: Event) -> Crossing
         9 => lamp_report(s, c, e),
         _ => c,
     }
+}
+
+// The trains that a taken event of codes 1 to 9 writes off at its own crossing: 1 where a strike-in finds its track full
+// (document 02, T-01).
+pub fn written_off(c: Crossing, e: Event) -> u32
+    ensures { λ r. ⌜ r ≡ bit (sweeps c e) 1 ⌝ }
+    ensures { λ r. ⌜ r ≤ 1 ⌝ }
+{
+    if e.code == 1 {
+        let t = e.place as usize;
+        if track::full(c, t) {
+            return 1;
+        }
+    }
+    0
 }
 
 // What a taken event of codes 1 to 9 makes of its own crossing. For other crates alone: room for the event is what a

@@ -1,13 +1,13 @@
 -- One event of the machine as the code takes it: by the entry and the crossing at one place of its arrays.
-use mathlib.Core.Path.{_≡_, sym, _∙_}
-use mathlib.Core.Bool.{true, false}
+use mathlib.Core.Path.{_≡_, refl, sym, _∙_}
+use mathlib.Core.Bool.{true, false, and-true, and-false}
 use mathlib.Core.List.{List}
 use Prim.Native.Nat.{ℕ, _%_, _≤_, _<_}
 use native.Mathlib.Nat.{mod-eq-of-lt}
 use native.Mathlib.Omega.{arith}
 use lib.Dec.{eqb, ltb, leb}
 use lib.ListN.{length, getD, set}
-use borrow.Author.Tests.{ltb-true, ltb-false, le-leb}
+use borrow.Author.Tests.{ltb-true, ltb-false, le-leb, eq-eqb}
 use Rattle.machine.specs.declared.Entry.{Entry}
 use Rattle.machine.specs.declared.Crossing.{Crossing}
 use Rattle.machine.specs.declared.Plant.{Plant}
@@ -15,10 +15,11 @@ use Rattle.machine.specs.declared.Event.{Event}
 use Rattle.machine.specs.Plant.{no-entry, no-crossing, entry, crossing}
 use Rattle.machine.specs.Range.{in-range}
 use Rattle.machine.specs.Events.{is, crossing-limit, refusal, number}
-use Rattle.machine.specs.Effects.{act, written-at}
+use Rattle.machine.specs.Common.{bit}
+use Rattle.machine.specs.Effects.{sweeps, act, written-at}
 use Rattle.machine.specs.Settling.{settle}
 use Rattle.machine.specs.Step.{touch, apply, written, step}
-use Rattle.machine.proofs.Tools.{by-test, by-cond, tab-set}
+use Rattle.machine.proofs.Tools.{by-test, by-cond, sum-at, tab-set}
 use Rattle.machine.proofs.Ranges.{plant-reads, entry-of}
 use Rattle.machine.proofs.Taken.{taken-answer, taken-tests, taken-crossing}
 use Rattle.plant.proofs.Laws.{unread, crossing-read}
@@ -62,20 +63,27 @@ module _ (p : Plant) (e : Event) where
   unfolding apply written written-at touch
   tick-step q k = taken-answer p e q ∙ rw k
 
-  -- a taken event of one crossing
-  pub own-step : length (p .crossings) ≡ 8 → number p e ≡ 0 → is 0 e ≡ false → step p e ≡ record {
-    number = 0;
-    written = 0;
-    plant = record { site = p .site; beat = p .beat; crossings = set (p .crossings) (e .crossing) (settle (entry p (e .crossing)) 0 (act (entry p (e .crossing)) (crossing p (e .crossing)) e)) };
-  }
-  unfolding apply written written-at touch
-  own-step len q k = taken-answer p e q ∙ simp (k, tab-set 8 (p .crossings) no-crossing (e .crossing) (λ i. settle (entry p i) 0 (act (entry p i) (crossing p i) e)) len)
-
   pub own-below : number p e ≡ 0 → is 0 e ≡ false → e .crossing < 8
   own-below q k =
       let n = plant-reads p (taken-tests p e q .0) .count in
       let l = taken-crossing p e q k in
       omega arith
+
+  -- an event of one crossing writes off trains there alone
+  own-written : number p e ≡ 0 → is 0 e ≡ false → written p e ≡ bit (sweeps (crossing p (e .crossing)) e) 1
+  unfolding written written-at
+  own-written q k =
+      sum-at (λ i. written-at (entry p i) i (crossing p i) e) 8 (e .crossing) (own-below q k) (λ i l o. rw (k, o, and-false))
+      ∙ rw (k, eq-eqb (e .crossing) (e .crossing) refl, and-true)
+
+  -- a taken event of one crossing
+  pub own-step : length (p .crossings) ≡ 8 → number p e ≡ 0 → is 0 e ≡ false → step p e ≡ record {
+    number = 0;
+    written = bit (sweeps (crossing p (e .crossing)) e) 1;
+    plant = record { site = p .site; beat = p .beat; crossings = set (p .crossings) (e .crossing) (settle (entry p (e .crossing)) 0 (act (entry p (e .crossing)) (crossing p (e .crossing)) e)) };
+  }
+  unfolding apply touch
+  own-step len q k = taken-answer p e q ∙ simp (own-written q k, k, tab-set 8 (p .crossings) no-crossing (e .crossing) (λ i. settle (entry p i) 0 (act (entry p i) (crossing p i) e)) len)
 
   pub own-room : number p e ≡ 0 → is 0 e ≡ false → Room (crossing p (e .crossing)) e
   own-room q k =

@@ -48,12 +48,13 @@ fn take_own(p: Plant, e: Event) -> Answer
     let site = p.site;
     let s = site.entries[k];
     let c = p.crossings[k];
+    let off = effect::written_off(c, e);
     let d = effect::apply(s, c, e);
     let mut q = p;
     q.crossings[k] = d;
     Answer {
         number: 0,
-        written: 0,
+        written: off,
         plant: q,
     }
 }

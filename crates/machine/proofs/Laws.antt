@@ -32,8 +32,15 @@ fresh-used s = record {
   out = lit≤ tt;
 }
   where
-    empty : (t : ℕ) → TrackIn s t 0 0 0 0
-    empty t = record { few = lit≤ tt; route = lit≤ tt; occupied = lit≤ tt; plain = λ _. (refl, refl); lacking = λ _. record { calling = refl; waiting = refl; route = refl; occupied = refl } }
+    empty : (t : ℕ) → TrackIn s t 0 0 0 0 0
+    empty t = record {
+      few = lit≤ tt;
+      route = lit≤ tt;
+      occupied = lit≤ tt;
+      unsure = lit≤ tt;
+      plain = λ _. (refl, refl);
+      lacking = λ _. record { calling = refl; waiting = refl; route = refl; occupied = refl; unsure = refl };
+    }
 
     up : (b : ℕ) → leb 0 (cond (ltb b (boom-count (s .kind))) 2 0) ≡ true
     up b = leb·zero (cond (ltb b (boom-count (s .kind))) 2 0)

@@ -1,24 +1,39 @@
 -- The limits 255 and 900 to the unit, in plain numbers.
 use mathlib.Core.Path.{_≡_, refl}
-use mathlib.Core.Bool.{true, false, cond}
+use mathlib.Core.Bool.{true, false, cond, and-true}
 use Prim.Native.Nat.{ℕ, zero, suc, _≤_, _<_}
 use native.Mathlib.Omega.{arith}
 use lib.Dec.{ltb, leb}
-use borrow.Author.Tests.{leb-true, leb-false, ltb-true, ltb-false, lt-ltb, le-ltb, le-leb, lt-leb}
-use Rattle.machine.specs.Plant.{Plant, overdue-ticks, trains, entry, crossing}
+use borrow.Author.Tests.{leb-true, leb-false, ltb-true, ltb-false, lt-ltb, le-ltb, le-leb, lt-leb, eq-eqb}
+use Rattle.machine.specs.Common.{bit}
+use Rattle.machine.specs.Plant.{Entry, Crossing, Plant, overdue-ticks, unsure-flag, trains, entry}
 use Rattle.machine.specs.Range.{in-range}
-use Rattle.machine.specs.Events.{place-limit, value-limit, refusal, number}
+use Rattle.machine.specs.Events.{Event, place-limit, value-limit, refusal, number}
+use Rattle.machine.specs.Effects.{unsure-after, written-at}
 use Rattle.machine.specs.Settling.{out-settled}
 use Rattle.machine.proofs.Tools.{by-test}
 
--- a strike-in at a track of the plant is taken below 255 trains on that track and is number 9 at 255
-pub strike-in-number : (p : Plant) (i t : ℕ) → in-range p ≡ true → i < p .site .n → t < entry p i .tracks
-    → number p (record { code = 1; crossing = i; place = t; value = 0 }) ≡ cond (ltb (trains (crossing p i) t) 255) 0 9
-unfolding number refusal place-limit value-limit
-strike-in-number p i t h a b = rw (h, lt-leb _ _ a, lt-leb _ _ b) (by-test (leb 255 (trains (crossing p i) t))
-    (λ q. rw (q, le-ltb _ 255 (leb-true _ _ q)))
-    (λ q. rw (q, lt-ltb _ 255 (leb-false _ _ q))))
+-- A strike-in (T-01) ----------------------------------------------------------------------------------------------------------------
+abbrev strike-in : ℕ → ℕ → Event
+strike-in i t = record { code = 1; crossing = i; place = t; value = 0 }
 
+-- at a track of the plant it is taken, full or not
+pub strike-in-number : (p : Plant) (i t : ℕ) → in-range p ≡ true → i < p .site .n → t < entry p i .tracks → number p (strike-in i t) ≡ 0
+unfolding number refusal place-limit value-limit
+strike-in-number p i t h a b = rw (h, lt-leb _ _ a, lt-leb _ _ b)
+
+module _ (i t : ℕ) (c : Crossing) where
+  -- it writes off 1 where its track has 255 trains, otherwise none
+  pub strike-in-written : (s : Entry) → written-at s i c (strike-in i t) ≡ bit (leb 255 (trains c t)) 1
+  unfolding written-at
+  strike-in-written s = rw (eq-eqb i i refl, and-true)
+
+  -- it puts on the flag of its track where that has 255 trains, and otherwise leaves it
+  pub strike-in-unsure : unsure-after c (strike-in i t) t ≡ cond (leb 255 (trains c t)) 1 (unsure-flag c t)
+  unfolding unsure-after
+  strike-in-unsure = rw (eq-eqb t t refl, and-true)
+
+-- Ticks out of normal ----------------------------------------------------------------------------------------------------------------
 -- ticks out of normal after n ticks without a break
 unfoldable pub out-after : ℕ → ℕ
 out-after zero = 0

@@ -6,41 +6,44 @@ use native.Mathlib.Omega.{arith}
 use lib.Dec.{eqb, ltb, leb}
 use borrow.Author.Tests.{eqb-true, leb-true, ltb-true, ltb-false, not-true, eq-eqb, le-leb, lt-ltb, le-ltb}
 use Rattle.machine.specs.Common.{all-below}
-use Rattle.machine.specs.Plant.{Entry, Crossing, Plant, release-ticks, overdue-ticks, full, calling, waiting, route-flag, occupied-flag, boom, lamp-flag, trains, entry, crossing, dependent, lights-only}
+use Rattle.machine.specs.Plant.{Entry, Crossing, Plant, release-ticks, overdue-ticks, full, calling, waiting, route-flag, occupied-flag, unsure-flag, boom, lamp-flag, trains, entry, crossing, dependent, lights-only}
 use Rattle.machine.specs.Range.{entry-in, entry-zero, flag-in, track-zero, track-in, boom-in, phase-in, crossing-in, crossing-zero, place-in, count-in, in-range}
 use Rattle.machine.proofs.Tools.{by-test, by-cond, and-both, and-intro, or-right, or-left-false, all-below-intro, all-below-at}
 use Rattle.machine.proofs.Entries.{EntryIn, entry-reads}
 
 -- One track: its number t and what it holds ----------------------------------------------------------------------------------------
-pub record Zero (k w r o : ℕ) : Type 0 where
+pub record Zero (k w r o u : ℕ) : Type 0 where
   pub calling : k ≡ 0
   pub waiting : w ≡ 0
   pub route : r ≡ 0
   pub occupied : o ≡ 0
+  pub unsure : u ≡ 0
 
-pub record TrackIn (s : Entry) (t k w r o : ℕ) : Type 0 where
+pub record TrackIn (s : Entry) (t k w r o u : ℕ) : Type 0 where
   pub few : k + w ≤ full
   pub route : r ≤ 1
   pub occupied : o ≤ 1
+  pub unsure : u ≤ 1
   pub plain : dependent s t ≡ false → (w ≡ 0) × (r ≡ 0)
-  pub lacking : s .tracks ≤ t → Zero k w r o
+  pub lacking : s .tracks ≤ t → Zero k w r o u
 
 abbrev pub ZeroAt : Crossing → ℕ → Type 0
-ZeroAt c t = Zero (calling c t) (waiting c t) (route-flag c t) (occupied-flag c t)
+ZeroAt c t = Zero (calling c t) (waiting c t) (route-flag c t) (occupied-flag c t) (unsure-flag c t)
 
 abbrev pub TrackAt : Entry → Crossing → ℕ → Type 0
-TrackAt s c t = TrackIn s t (calling c t) (waiting c t) (route-flag c t) (occupied-flag c t)
+TrackAt s c t = TrackIn s t (calling c t) (waiting c t) (route-flag c t) (occupied-flag c t) (unsure-flag c t)
 
 module _ (c : Crossing) (t : ℕ) where
   pub zero-reads : track-zero c t ≡ true → ZeroAt c t
   zero-reads q =
-      let o = and-both _ (eqb (occupied-flag c t) 0) q in
+      let u = and-both _ (eqb (unsure-flag c t) 0) q in
+      let o = and-both _ (eqb (occupied-flag c t) 0) (u .0) in
       let r = and-both _ (eqb (route-flag c t) 0) (o .0) in
       let w = and-both (eqb (calling c t) 0) (eqb (waiting c t) 0) (r .0) in
-      record { calling = eqb-true _ _ (w .0); waiting = eqb-true _ _ (w .1); route = eqb-true _ _ (r .1); occupied = eqb-true _ _ (o .1) }
+      record { calling = eqb-true _ _ (w .0); waiting = eqb-true _ _ (w .1); route = eqb-true _ _ (r .1); occupied = eqb-true _ _ (o .1); unsure = eqb-true _ _ (u .1) }
 
   pub zero-tests : ZeroAt c t → track-zero c t ≡ true
-  zero-tests z = rw (z .calling, z .waiting, z .route, z .occupied)
+  zero-tests z = rw (z .calling, z .waiting, z .route, z .occupied, z .unsure)
 
   module _ (s : Entry) where
     pub track-reads : track-in s c t ≡ true → TrackAt s c t
@@ -48,12 +51,14 @@ module _ (c : Crossing) (t : ℕ) where
     track-reads q =
         let l = and-both _ (ltb t (s .tracks) || track-zero c t) q in
         let p = and-both _ (dependent s t || (eqb (waiting c t) 0 && eqb (route-flag c t) 0)) (l .0) in
-        let f = and-both (leb (trains c t) full) (flag-in (route-flag c t) && flag-in (occupied-flag c t)) (p .0) in
-        let g = and-both (flag-in (route-flag c t)) (flag-in (occupied-flag c t)) (f .1) in
+        let f = and-both (leb (trains c t) full) (flag-in (route-flag c t) && flag-in (occupied-flag c t) && flag-in (unsure-flag c t)) (p .0) in
+        let u = and-both _ (flag-in (unsure-flag c t)) (f .1) in
+        let g = and-both (flag-in (route-flag c t)) (flag-in (occupied-flag c t)) (u .0) in
         record {
           few = leb-true _ _ (f .0);
           route = leb-true _ _ (g .0);
           occupied = leb-true _ _ (g .1);
+          unsure = leb-true _ _ (u .1);
           plain = λ d. let a = and-both (eqb (waiting c t) 0) _ (or-left-false (dependent s t) _ d (p .1)) in (eqb-true _ _ (a .0), eqb-true _ _ (a .1));
           lacking = λ b. zero-reads (or-left-false (ltb t (s .tracks)) _ (le-ltb _ _ b) (l .1));
         }
@@ -61,7 +66,7 @@ module _ (c : Crossing) (t : ℕ) where
     pub track-tests : TrackAt s c t → track-in s c t ≡ true
     unfolding track-in
     track-tests h =
-        and-intro (and-intro (and-intro (le-leb _ _ (h .few)) (and-intro (le-leb _ _ (h .route)) (le-leb _ _ (h .occupied))))
+        and-intro (and-intro (and-intro (le-leb _ _ (h .few)) (and-intro (and-intro (le-leb _ _ (h .route)) (le-leb _ _ (h .occupied))) (le-leb _ _ (h .unsure))))
         (or-right (dependent s t) (eqb (waiting c t) 0 && eqb (route-flag c t) 0) (λ d. rw (h .plain d .0, h .plain d .1))))
         (or-right (ltb t (s .tracks)) (track-zero c t) (λ b. zero-tests (h .lacking (ltb-false _ _ b))))
 

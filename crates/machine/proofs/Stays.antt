@@ -1,26 +1,30 @@
 -- A plant in range stays in range under every event.
 use mathlib.Core.Path.{_≡_, refl, sym, _∙_}
-use mathlib.Core.Bool.{Bool, true, false, cond, _&&_, true≢false}
+use mathlib.Core.Bool.{Bool, true, false, cond, _&&_, true≢false, and-false}
 use Prim.Native.Nat.{ℕ, suc, _+_, _≤_, _<_}
 use native.Mathlib.Omega.{arith}
 use lib.Dec.{eqb, ltb, leb, lit<}
 use lib.ListN.{getD}
-use borrow.Author.Tests.{eqb-true, eqb-false, leb-true, le-leb, lt-ltb}
+use borrow.Author.Tests.{eqb-true, eqb-false, leb-true, leb-false, le-leb, lt-ltb}
 use Rattle.machine.specs.Common.{tab, bit}
-use Rattle.machine.specs.Plant.{Entry, Crossing, Plant, release-ticks, overdue-ticks, full, calling, waiting, route-flag, occupied-flag, boom, lamp-flag, trains, entry, crossing, no-crossing, dependent, boom-count, reason, booms-up}
+use Rattle.machine.specs.Plant.{Entry, Crossing, Plant, release-ticks, overdue-ticks, full, calling, waiting, route-flag, occupied-flag, unsure-flag, boom, lamp-flag, trains, entry, crossing, no-crossing, dependent, boom-count, reason, booms-up}
 use Rattle.machine.specs.Range.{in-range, boom-in}
 use Rattle.machine.specs.Events.{Event, is, is-at, on-track, place-limit, value-limit, number}
-use Rattle.machine.specs.Effects.{calling-after, waiting-after, cancels, act, releases, phase-ticked, timer-ticked, tick}
+use Rattle.machine.specs.Effects.{sweeps, calling-after, waiting-after, unsure-after, cancels, act, releases, phase-ticked, timer-ticked, tick}
 use Rattle.machine.specs.Settling.{phase-settled, timer-settled, out-settled, with-phase, settle}
 use Rattle.machine.specs.Step.{touch, apply, step}
 use Rattle.machine.proofs.Tools.{by-test, by-cond, and-both, getD-tab, each-tab}
 use Rattle.machine.proofs.Trains.{at-place, trains-after}
 use Rattle.machine.proofs.Taken.{Accepted, taken-accepted, taken-crossing, taken-answer, refused-answer}
 use Rattle.machine.proofs.Entries.{EntryIn, zero-kind}
-use Rattle.machine.proofs.Ranges.{TrackIn, TrackAt, CrossingIn, NoCrossing, PlantIn, plant-reads, plant-tests, entry-of}
+use Rattle.machine.proofs.Ranges.{Zero, TrackIn, TrackAt, CrossingIn, NoCrossing, PlantIn, plant-reads, plant-tests, entry-of}
 use Rattle.machine.proofs.Phases.{less, phase-ticks, phase-settles}
 
 -- One crossing --------------------------------------------------------------------------------------------------------------------
+-- what a completed release clears, at track t
+cleared-at : (c : Crossing) (f : ℕ → ℕ) (t : ℕ) → t < 4 → getD (tab 4 (λ u. cond (releases c) 0 (f u))) t 0 ≡ cond (releases c) 0 (f t)
+cleared-at c f t l = getD-tab 4 (λ u. cond (releases c) 0 (f u)) 0 t l
+
 module _ (s : Entry) (g : EntryIn s) where
   out-law : (normal : Bool) (add out : ℕ) → add ≤ 1 → out-settled normal add out ≤ suc overdue-ticks
   unfolding out-settled
@@ -42,7 +46,7 @@ module _ (s : Entry) (g : EntryIn s) where
   ticks : (c : Crossing) → CrossingIn s c → CrossingIn s (tick s c)
   unfolding tick
   ticks c h = record {
-    track = λ t l. let k = h .track t l in rw (getD-tab 4 (λ t. cond (releases c) 0 (calling c t)) 0 t l, getD-tab 4 (λ t. cond (releases c) 0 (waiting c t)) 0 t l) (cleared t (releases c) k);
+    track = λ t l. let k = h .track t l in rw (cleared-at c (calling c) t l, cleared-at c (waiting c) t l, cleared-at c (unsure-flag c) t l) (cleared t (releases c) k);
     boom = h .boom;
     lamp = h .lamp;
     kiosk = h .kiosk;
@@ -52,8 +56,15 @@ module _ (s : Entry) (g : EntryIn s) where
     out = h .out;
   }
     where
-      cleared : (t : ℕ) (b : Bool) {k w r o : ℕ} → TrackIn s t k w r o → TrackIn s t (cond b 0 k) (cond b 0 w) r o
-      cleared t true h = record { few = omega arith; route = h .route; occupied = h .occupied; plain = λ d. (refl, h .plain d .1); lacking = λ m. let z = h .lacking m in record { calling = refl; waiting = refl; route = z .route; occupied = z .occupied } }
+      cleared : (t : ℕ) (b : Bool) {k w r o u : ℕ} → TrackIn s t k w r o u → TrackIn s t (cond b 0 k) (cond b 0 w) r o (cond b 0 u)
+      cleared t true h = record {
+        few = omega arith;
+        route = h .route;
+        occupied = h .occupied;
+        unsure = omega arith;
+        plain = λ d. (refl, h .plain d .1);
+        lacking = λ m. let z = h .lacking m in record { calling = refl; waiting = refl; route = z .route; occupied = z .occupied; unsure = refl };
+      }
       cleared t false h = h
 
   -- an event of codes 1 to 9 at its own crossing
@@ -69,20 +80,27 @@ module _ (s : Entry) (g : EntryIn s) where
         absurd (omega arith))
         (λ q. q)
 
+    swept-trains : (t : ℕ) → sweeps c e ≡ true → calling-after s c e t + waiting-after s c e t ≡ trains c t
+    unfolding calling-after waiting-after
+    swept-trains t q = rw q
+
     few : (t : ℕ) → trains c t ≤ full → calling-after s c e t + waiting-after s c e t ≤ full
-    few t f = by-test (is-at 1 t e)
-        (λ q. let r = at-place (λ u. trains c u < full) 1 t e (a .room) q in let m = rw q at after in omega arith)
-        (λ q. let m = rw q at after in omega arith)
+    few t f = by-test (sweeps c e)
+        (λ q. let m = swept-trains t q in omega arith)
+        (λ q. by-test (is-at 1 t e)
+        (λ o. let r = at-place (λ u. trains c u < full) 1 t e (λ one. leb-false _ _ (rw one at q)) o in let m = rw o at after in omega arith)
+        (λ o. let m = rw o at after in omega arith))
       where
-        after : calling-after s c e t + waiting-after s c e t + bit (is-at 2 t e) 1 ≡ trains c t + bit (is-at 1 t e) 1
+        after : calling-after s c e t + waiting-after s c e t + bit (is-at 2 t e) 1 + bit (sweeps c e && eqb (e .place) t) 1 ≡ trains c t + bit (is-at 1 t e) 1
         after = trains-after s c e t (a .there)
 
     plain-waits : (t : ℕ) → dependent s t ≡ false → waiting c t ≡ 0 → waiting-after s c e t ≡ 0
     unfolding waiting-after
     plain-waits t d z = rw d
-        (by-cond (λ x. x ≡ 0) (is-at 1 t e) (λ _. omega arith) (λ _.
+        (by-cond (λ x. x ≡ 0) (sweeps c e) (λ _. z) (λ _.
+        by-cond (λ x. x ≡ 0) (is-at 1 t e) (λ _. omega arith) (λ _.
         by-cond (λ x. x ≡ 0) (is-at 2 t e) (λ _. omega arith) (λ _.
-        by-cond (λ x. x ≡ 0) (is-at 5 t e && eqb (e .value) 1) (λ _. refl) (λ _. z))))
+        by-cond (λ x. x ≡ 0) (is-at 5 t e && eqb (e .value) 1) (λ _. refl) (λ _. z)))))
 
     plain-route : (t r : ℕ) → dependent s t ≡ false → r ≡ 0 → cond (is-at 5 t e) (e .value) r ≡ 0
     plain-route t r d z = by-cond (λ x. x ≡ 0) (is-at 5 t e)
@@ -96,14 +114,26 @@ module _ (s : Entry) (g : EntryIn s) where
     flag-at : (k t : ℕ) {x : ℕ} → value-limit k ≡ 2 → x ≤ 1 → cond (is-at k t e) (e .value) x ≤ 1
     flag-at k t v = flag k (is-at k t e) v (λ q. and-both (is k e) (eqb (e .place) t) q .0)
 
-    track-acts : (t : ℕ) → TrackAt s c t → TrackIn s t (calling-after s c e t) (waiting-after s c e t) (cond (is-at 5 t e) (e .value) (route-flag c t)) (cond (is-at 6 t e) (e .value) (occupied-flag c t))
-    unfolding calling-after waiting-after value-limit
+    -- a track that the crossing lacks does not become unsure
+    not-swept : (t : ℕ) → s .tracks ≤ t → (sweeps c e && eqb (e .place) t) ≡ false
+    not-swept t m = by-test (is 1 e)
+        (λ one. let o : eqb (e .place) t ≡ false = rw one at (elsewhere 1 t refl m) in rw (o, and-false))
+        (λ other. rw other)
+
+    -- and holds what it held, whether the event sweeps or not
+    as-it-was : (b : Bool) {k w r o u : ℕ} → Zero k w r o u → Zero (cond b k k) (cond b w w) r o u
+    as-it-was true z = z
+    as-it-was false z = z
+
+    track-acts : (t : ℕ) → TrackAt s c t → TrackIn s t (calling-after s c e t) (waiting-after s c e t) (cond (is-at 5 t e) (e .value) (route-flag c t)) (cond (is-at 6 t e) (e .value) (occupied-flag c t)) (unsure-after c e t)
+    unfolding calling-after waiting-after unsure-after value-limit
     track-acts t h = record {
       few = few t (h .few);
       route = flag-at 5 t refl (h .route);
       occupied = flag-at 6 t refl (h .occupied);
+      unsure = by-cond (λ x. x ≤ 1) (sweeps c e && eqb (e .place) t) (λ _. omega arith) (λ _. h .unsure);
       plain = λ d. (plain-waits t d (h .plain d .0), plain-route t (route-flag c t) d (h .plain d .1));
-      lacking = λ m. let z = h .lacking m in rw (elsewhere 1 t refl m, elsewhere 2 t refl m, elsewhere 5 t refl m, elsewhere 6 t refl m) z;
+      lacking = λ m. rw (elsewhere 1 t refl m, elsewhere 2 t refl m, elsewhere 5 t refl m, elsewhere 6 t refl m, not-swept t m) (as-it-was (sweeps c e) (h .lacking m));
     }
 
     boom-acts : (b : ℕ) → boom-in s c b ≡ true → leb (cond (is-at 8 b e) (e .value) (boom c b)) (cond (ltb b (boom-count (s .kind))) 2 0) ≡ true
@@ -126,6 +156,7 @@ module _ (s : Entry) (g : EntryIn s) where
         getD-tab 4 (waiting-after s c e) 0 t l,
         getD-tab 4 (λ t. cond (is-at 5 t e) (e .value) (route-flag c t)) 0 t l,
         getD-tab 4 (λ t. cond (is-at 6 t e) (e .value) (occupied-flag c t)) 0 t l,
+        getD-tab 4 (unsure-after c e) 0 t l,
       )
           (track-acts t (h .track t l));
       boom = λ b l. rw (getD-tab 4 (λ b. cond (is-at 8 b e) (e .value) (boom c b)) 0 b l) (boom-acts b (h .boom b l));
@@ -140,7 +171,12 @@ module _ (s : Entry) (g : EntryIn s) where
 -- A record past the last crossing --------------------------------------------------------------------------------------------------
 no-reason : (c : Crossing) → NoCrossing c → reason c ≡ false
 unfolding reason
-no-reason c h = rw (h .kiosk, h .operator, h .track 0 (lit< tt) .calling, h .track 1 (lit< tt) .calling, h .track 2 (lit< tt) .calling, h .track 3 (lit< tt) .calling)
+no-reason c h =
+    let z0 = h .track 0 (lit< tt) in
+    let z1 = h .track 1 (lit< tt) in
+    let z2 = h .track 2 (lit< tt) in
+    let z3 = h .track 3 (lit< tt) in
+    rw (h .kiosk, h .operator, z0 .calling, z1 .calling, z2 .calling, z3 .calling, z0 .unsure, z1 .unsure, z2 .unsure, z3 .unsure)
 
 same-phase : (c : Crossing) {phase timer out : ℕ} → c .phase ≡ phase → c .timer ≡ timer → c .out ≡ out → with-phase c phase timer out ≡ c
 same-phase c p t o = rw (← p, ← t, ← o)
@@ -154,7 +190,7 @@ module _ (s : Entry) (none : s .kind ≡ 0) where
   zero-ticks : (c : Crossing) → NoCrossing c → NoCrossing (tick s c)
   unfolding tick phase-ticked timer-ticked
   zero-ticks c h = record {
-    track = λ t l. let z = h .track t l in rw (getD-tab 4 (λ t. cond (releases c) 0 (calling c t)) 0 t l, getD-tab 4 (λ t. cond (releases c) 0 (waiting c t)) 0 t l, h .countdown) z;
+    track = λ t l. let z = h .track t l in rw (cleared-at c (calling c) t l, cleared-at c (waiting c) t l, cleared-at c (unsure-flag c) t l, h .countdown) z;
     boom = h .boom;
     lamp = h .lamp;
     kiosk = h .kiosk;

@@ -3,7 +3,7 @@ use mathlib.Core.Bool.{Bool, cond, not, _&&_, _||_}
 use Prim.Native.Nat.{ℕ, _+_, _-_, pred}
 use lib.Dec.{eqb}
 use Rattle.machine.specs.Common.{tab, bit}
-use Rattle.machine.specs.Plant.{Entry, Crossing, release-ticks, calling, waiting, route-flag, route, occupied-flag, boom, lamp-flag, dependent, total}
+use Rattle.machine.specs.Plant.{Entry, Crossing, release-ticks, calling, waiting, route-flag, route, occupied-flag, unsure-flag, boom, lamp-flag, is-full, dependent, total}
 use Rattle.machine.specs.Events.{Event, is, is-to, is-at}
 
 -- An event of codes 1 to 9 -------------------------------------------------------------------------------------------------------
@@ -11,21 +11,33 @@ use Rattle.machine.specs.Events.{Event, is, is-to, is-at}
 abbrev pub calls : Entry → Crossing → ℕ → Bool
 calls s c t = not (dependent s t) || route c t
 
--- calling on track t: strike-in + 1 where it calls; passage - 1; setting a route adds all waiting
+-- a strike-in that finds its track full (T-01)
+abbrev pub sweeps : Crossing → Event → Bool
+sweeps c e = is 1 e && is-full c (e .place)
+
+-- calling on track t: a strike-in on a full track leaves it (T-01); strike-in + 1 where it calls; passage - 1; setting a route adds all
+-- waiting
 unfoldable pub calling-after : Entry → Crossing → Event → ℕ → ℕ
 calling-after s c e t =
-    cond (is-at 1 t e) (calling c t + bit (calls s c t) 1)
+    cond (sweeps c e) (calling c t)
+    (cond (is-at 1 t e) (calling c t + bit (calls s c t) 1)
     (cond (is-at 2 t e) (pred (calling c t))
     (cond (is-at 5 t e && eqb (e .value) 1) (calling c t + waiting c t)
-    (calling c t)))
+    (calling c t))))
 
--- waiting on track t: strike-in + 1 where it does not call; passage - 1 where calling is 0; setting a route leaves none
+-- waiting on track t: a strike-in on a full track leaves it (T-01); strike-in + 1 where it does not call; passage - 1 where calling is 0;
+-- setting a route leaves none
 unfoldable pub waiting-after : Entry → Crossing → Event → ℕ → ℕ
 waiting-after s c e t =
-    cond (is-at 1 t e) (waiting c t + bit (not (calls s c t)) 1)
+    cond (sweeps c e) (waiting c t)
+    (cond (is-at 1 t e) (waiting c t + bit (not (calls s c t)) 1)
     (cond (is-at 2 t e) (waiting c t - bit (eqb (calling c t) 0) 1)
     (cond (is-at 5 t e && eqb (e .value) 1) 0
-    (waiting c t)))
+    (waiting c t))))
+
+-- a strike-in on a full track makes it unsure; every other event of codes 1 to 9 leaves the flag (T-01)
+unfoldable pub unsure-after : Crossing → Event → ℕ → ℕ
+unsure-after c e t = cond (sweeps c e && eqb (e .place) t) 1 (unsure-flag c t)
 
 -- a strike-in, a hold on, a route set or an approach occupied cancels the countdown, a repeat included
 unfoldable pub cancels : Event → Bool
@@ -38,6 +50,7 @@ act s c e = record {
   waiting = tab 4 (waiting-after s c e);
   route = tab 4 (λ t. cond (is-at 5 t e) (e .value) (route-flag c t));
   occupied = tab 4 (λ t. cond (is-at 6 t e) (e .value) (occupied-flag c t));
+  unsure = tab 4 (unsure-after c e);
   booms = tab 4 (λ b. cond (is-at 8 b e) (e .value) (boom c b));
   lamps = tab 5 (λ l. cond (is-at 9 l e) (e .value) (lamp-flag c l));
   kiosk = cond (is 3 e) (e .value) (c .kiosk);
@@ -49,7 +62,7 @@ act s c e = record {
 }
 
 -- A tick -------------------------------------------------------------------------------------------------------------------------
--- this tick brings a running countdown to 0: the trains of the crossing are written off
+-- this tick brings a running countdown to 0: the trains of the crossing are written off, and no track stays unsure (T-01)
 abbrev pub releases : Crossing → Bool
 releases c = eqb (c .countdown) 1
 
@@ -65,13 +78,14 @@ phase-ticked s phase timer = cond (eqb timer 1) (cond (to-gap s phase) 2 3) phas
 unfoldable pub timer-ticked : Entry → ℕ → ℕ → ℕ
 timer-ticked s phase timer = cond (eqb timer 1) (bit (to-gap s phase) (s .gap)) (pred timer)
 
--- the countdown, then the timer, by 1
+-- the countdown, then the timer, by 1; a completed release clears the trains and, with T-01, the flags
 unfoldable pub tick : Entry → Crossing → Crossing
 tick s c = record {
   calling = tab 4 (λ t. cond (releases c) 0 (calling c t));
   waiting = tab 4 (λ t. cond (releases c) 0 (waiting c t));
   route = c .route;
   occupied = c .occupied;
+  unsure = tab 4 (λ t. cond (releases c) 0 (unsure-flag c t));
   booms = c .booms;
   lamps = c .lamps;
   kiosk = c .kiosk;
@@ -82,6 +96,7 @@ tick s c = record {
   out = c .out;
 }
 
--- the trains that an event writes off at crossing i, whose settings are s
+-- the trains that an event writes off at crossing i, whose settings are s: a tick all of them where a release completes, a strike-in there
+-- that finds its track full 1 (T-01), every other event none
 unfoldable pub written-at : Entry → ℕ → Crossing → Event → ℕ
-written-at s i c e = bit (is 0 e && releases c) (total c)
+written-at s i c e = cond (is 0 e) (bit (releases c) (total c)) (bit (sweeps c e && eqb (e .crossing) i) 1)

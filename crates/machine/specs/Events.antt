@@ -4,8 +4,8 @@ use Prim.Native.Nat.{ℕ}
 use lib.Dec.{eqb, ltb, leb}
 pub use Rattle.machine.specs.declared.Event.{Event}
 use Rattle.machine.specs.Common.{any-below, refuse}
-use Rattle.machine.specs.Numbers.{unknown-code, unknown-crossing, unknown-place, unknown-value, track-full, no-train, train-calling, not-clear, not-dependent, out-of-range}
-use Rattle.machine.specs.Plant.{Entry, Crossing, Plant, full, calling, route, occupied, kiosk, operator, trains, entry, crossing, dependent, boom-count}
+use Rattle.machine.specs.Numbers.{unknown-code, unknown-crossing, unknown-place, unknown-value, no-train, train-calling, not-clear, not-dependent, out-of-range}
+use Rattle.machine.specs.Plant.{Entry, Crossing, Plant, calling, route, occupied, kiosk, operator, trains, entry, crossing, dependent, boom-count}
 use Rattle.machine.specs.Range.{in-range}
 
 -- an event of this code
@@ -49,7 +49,7 @@ any-calling c = any-below 4 (λ t. ltb 0 (calling c t))
 abbrev pub blocked : Crossing → Bool
 blocked c = kiosk c || operator c || any-below 4 (λ t. route c t || occupied c t)
 
--- An event: 5, 6, 7, 8, 13, then 9 to 12; 0 where it is taken. n crossings; s and c are its own crossing's
+-- An event: 5, 6, 7, 8, 13, then 10 to 12 (9 no longer occurs, T-01); 0 where it is taken. n crossings; s and c are its own crossing's
 unfoldable pub refusal : ℕ → Entry → Crossing → Event → ℕ
 refusal n s c e =
     refuse (ltb 9 (e .code)) unknown-code
@@ -57,11 +57,10 @@ refusal n s c e =
     (refuse (leb (place-limit s (e .code)) (e .place)) unknown-place
     (refuse (leb (value-limit (e .code)) (e .value)) unknown-value
     (refuse (is 5 e && not (dependent s (e .place))) not-dependent
-    (refuse (is 1 e && leb full (trains c (e .place))) track-full
     (refuse (is 2 e && eqb (trains c (e .place)) 0) no-train
     (refuse (is-to 4 0 e && any-calling c) train-calling
     (refuse (is 7 e && blocked c) not-clear
-    0))))))))
+    0)))))))
 
 -- Order: 15 first
 unfoldable pub number : Plant → Event → ℕ

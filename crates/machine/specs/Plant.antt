@@ -51,6 +51,14 @@ occupied-flag c t = getD (c .occupied) t 0
 abbrev pub occupied : Crossing → ℕ → Bool
 occupied c t = is-on (occupied-flag c t)
 
+-- the flag of track t: unsure (T-01)
+abbrev pub unsure-flag : Crossing → ℕ → ℕ
+unsure-flag c t = getD (c .unsure) t 0
+
+-- track t is unsure: a strike-in found it full (T-01)
+abbrev pub unsure : Crossing → ℕ → Bool
+unsure c t = is-on (unsure-flag c t)
+
 -- the last report of boom b: 0 up, 1 moving, 2 down
 abbrev pub boom : Crossing → ℕ → ℕ
 boom c b = getD (c .booms) b 0
@@ -75,6 +83,10 @@ operator c = is-on (c .operator)
 abbrev pub trains : Crossing → ℕ → ℕ
 trains c t = calling c t + waiting c t
 
+-- track t is full: calling and waiting together (T-01)
+abbrev pub is-full : Crossing → ℕ → Bool
+is-full c t = leb full (trains c t)
+
 -- the trains of a crossing
 abbrev pub total : Crossing → ℕ
 total c = sum4 (trains c)
@@ -83,13 +95,15 @@ total c = sum4 (trains c)
 abbrev pub no-entry : Entry
 no-entry = record { kind = 0; tracks = 0; mask = 0; pre = 0; gap = 0 }
 
--- Fresh: no trains, holds, routes or occupation, booms up, lamps whole, phase 0; a record past the last crossing is all zero
+-- Fresh: no trains, holds, routes or occupation, no track unsure (T-01), booms up, lamps whole, phase 0; a record past the last crossing
+-- is all zero
 abbrev pub fresh-crossing : Bool → Crossing
 fresh-crossing used = record {
   calling = tab 4 (λ t. 0);
   waiting = tab 4 (λ t. 0);
   route = tab 4 (λ t. 0);
   occupied = tab 4 (λ t. 0);
+  unsure = tab 4 (λ t. 0);
   booms = tab 4 (λ b. 0);
   lamps = tab 5 (λ l. bit used 1);
   kiosk = 0;
@@ -133,13 +147,13 @@ boom-count kind = cond (lights-only kind) 0 (cond (eqb kind 4) 4 2)
 abbrev pub each-boom : ℕ → (ℕ → Bool) → Bool
 each-boom kind f = all-below 4 (λ b. leb (boom-count kind) b || f b)
 
--- a reason: some track is calling or a hold is on
-abbrev pub reason-of : Bool → Bool → (ℕ → ℕ) → Bool
-reason-of kiosk operator calling = kiosk || operator || any-below 4 (λ t. ltb 0 (calling t))
+-- a reason: some track is calling or a hold is on; or some track is unsure (T-01)
+abbrev pub reason-of : Bool → Bool → (ℕ → ℕ) → (ℕ → Bool) → Bool
+reason-of kiosk operator calling unsure = kiosk || operator || any-below 4 (λ t. ltb 0 (calling t)) || any-below 4 unsure
 
 -- the reason of a crossing
 unfoldable pub reason : Crossing → Bool
-reason c = reason-of (kiosk c) (operator c) (calling c)
+reason c = reason-of (kiosk c) (operator c) (calling c) (unsure c)
 
 -- every boom reported up
 unfoldable pub booms-up : ℕ → (ℕ → ℕ) → Bool

@@ -3,7 +3,7 @@ use mathlib.Core.Bool.{Bool, cond, not, _&&_, _||_}
 use Prim.Native.Nat.{ℕ, suc, _^_}
 use lib.Dec.{eqb, ltb, leb}
 use Rattle.machine.specs.Common.{all-below}
-use Rattle.machine.specs.Plant.{Entry, Crossing, Plant, release-ticks, overdue-ticks, full, calling, waiting, route-flag, occupied-flag, boom, lamp-flag, trains, entry, crossing, dependent, lights-only, boom-count}
+use Rattle.machine.specs.Plant.{Entry, Crossing, Plant, release-ticks, overdue-ticks, full, calling, waiting, route-flag, occupied-flag, unsure-flag, boom, lamp-flag, trains, entry, crossing, dependent, lights-only, boom-count}
 
 -- G: 1 to 90 for kind 4, otherwise 0
 abbrev pub gap-in : ℕ → ℕ → Bool
@@ -26,16 +26,16 @@ entry-zero s = eqb (s .kind) 0 && eqb (s .tracks) 0 && eqb (s .mask) 0 && eqb (s
 abbrev pub flag-in : ℕ → Bool
 flag-in flag = leb flag 1
 
--- nothing on a track
+-- nothing on a track, and it is not unsure (T-01)
 abbrev pub track-zero : Crossing → ℕ → Bool
-track-zero c t = eqb (calling c t) 0 && eqb (waiting c t) 0 && eqb (route-flag c t) 0 && eqb (occupied-flag c t) 0
+track-zero c t = eqb (calling c t) 0 && eqb (waiting c t) 0 && eqb (route-flag c t) 0 && eqb (occupied-flag c t) 0 && eqb (unsure-flag c t) 0
 
--- trains together at most 255; route and occupation are flags; a plain track has no train waiting and no route; a track that the
--- crossing lacks is all zero
+-- trains together at most 255; route, occupation and unsure (T-01) are flags; a plain track has no train waiting and no route; a track
+-- that the crossing lacks is all zero
 unfoldable pub track-in : Entry → Crossing → ℕ → Bool
 track-in s c t =
     leb (trains c t) full
-    && (flag-in (route-flag c t) && flag-in (occupied-flag c t))
+    && (flag-in (route-flag c t) && flag-in (occupied-flag c t) && flag-in (unsure-flag c t))
     && (dependent s t || (eqb (waiting c t) 0 && eqb (route-flag c t) 0))
     && (ltb t (s .tracks) || track-zero c t)
 

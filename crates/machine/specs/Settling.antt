@@ -28,6 +28,7 @@ with-phase c phase timer out = record {
   waiting = c .waiting;
   route = c .route;
   occupied = c .occupied;
+  unsure = c .unsure;
   booms = c .booms;
   lamps = c .lamps;
   kiosk = c .kiosk;

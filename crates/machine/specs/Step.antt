@@ -1,5 +1,5 @@
 -- One event: the plant after it and its answer.
-use mathlib.Core.Bool.{cond, _&&_}
+use mathlib.Core.Bool.{cond}
 use mathlib.Core.List.{List, [], _∷_}
 use Prim.Native.Nat.{ℕ, _+_, _%_}
 use lib.Dec.{eqb}
@@ -25,7 +25,7 @@ apply p e = record {
   crossings = tab 8 (λ i. touch (entry p i) i (crossing p i) e);
 }
 
--- the trains written off, summed over the plant; every answer but that of a tick carries 0
+-- the trains written off, summed over the plant
 unfoldable pub written : Plant → Event → ℕ
 written p e = sum-below 8 (λ i. written-at (entry p i) i (crossing p i) e)
 

@@ -22,8 +22,9 @@ pub struct Site {
     pub entries: [Entry; 8],
 }
 
-// One crossing: four arrays by track, the last reports of its booms and lamps, and its numbers.
-// A flag (route, occupied, lamps, holds) is a byte, 0 or 1: every other value is out of its range.
+// One crossing: five arrays by track, the last reports of its booms and lamps, and its numbers.
+// A flag (route, occupied, unsure, lamps, holds) is a byte, 0 or 1: every other value is out of its range. A track is unsure
+// from a strike-in that found it full to the next completed time release (document 02, T-01).
 // Booms: 0 up, 1 moving, 2 down. Lamps: road white, road red, train signal red, train signal white, flasher.
 // Phases: 0 open, 1 warning, 2 right booms ordered down, 3 all ordered down, 4 raising.
 #[repr(C)]
@@ -32,6 +33,7 @@ pub struct Crossing {
     pub waiting: [u8; 4],
     pub route: [u8; 4],
     pub occupied: [u8; 4],
+    pub unsure: [u8; 4],
     pub booms: [u8; 4],
     pub lamps: [u8; 5],
     pub kiosk: u8,
@@ -103,6 +105,7 @@ impl Crossing {
             waiting: [0; 4],
             route: [0; 4],
             occupied: [0; 4],
+            unsure: [0; 4],
             booms: [0; 4],
             lamps: [used as u8; 5],
             kiosk: 0,

@@ -29,6 +29,7 @@ unread = record {
   waiting = [];
   route = [];
   occupied = [];
+  unsure = [];
   booms = [];
   lamps = [];
   kiosk = 0;

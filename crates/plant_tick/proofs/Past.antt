@@ -21,9 +21,9 @@ use Rattle.machine.proofs.Stays.{zero-settles}
 use Rattle.tick.proofs.Still.{Tracks, still-ticks}
 
 pub each-tracks : (l : List Crossing) (us : List Val) (i : ℕ) → shadow (each Crossing (row the-type .own) l us) → Tracks (getD l i no-crossing)
-each-tracks [] us i p = record { calling = refl; waiting = refl }
+each-tracks [] us i p = record { calling = refl; waiting = refl; unsure = refl }
 each-tracks (x ∷ l) [] i p = absurd p
-each-tracks (x ∷ l) (u ∷ us) zero p = record { calling = search (p, needs); waiting = search (p, needs) }
+each-tracks (x ∷ l) (u ∷ us) zero p = record { calling = search (p .0, needs); waiting = search (p .0, needs); unsure = search (p .0, needs) }
 each-tracks (x ∷ l) (u ∷ us) (suc i) p = each-tracks l us i (p .1)
 
 module _ (s : Entry) (c : Crossing) (h : NoCrossing c) where

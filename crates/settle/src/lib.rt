@@ -5,7 +5,7 @@ ghost use mathlib.Core.Path.{_≡_};
 ghost use lib.ListN.{getD};
 ghost use lib.Dec.{ltb};
 ghost use Rattle.machine.specs.Common.{any-below, bit};
-ghost use Rattle.machine.specs.Plant.{reason};
+ghost use Rattle.machine.specs.Plant.{is-on, reason};
 ghost use Rattle.machine.specs.Settling.{phase-settled, timer-settled, out-settled, settle};
 
 // Some track is calling.
@@ -15,12 +15,20 @@ pub fn any_calling(calling: [u8; 4]) -> bool
     (0 < calling[0]) | (0 < calling[1]) | (0 < calling[2]) | (0 < calling[3])
 }
 
-// A reason stands: some track is calling or a hold is on.
+// Some track is unsure (document 02, T-01).
+fn any_unsure(unsure: [u8; 4]) -> bool
+    ensures { λ r. ⌜ r ≡ any-below 4 (λ t. is-on (getD unsure t 0)) ⌝ }
+{
+    (unsure[0] == 1) | (unsure[1] == 1) | (unsure[2] == 1) | (unsure[3] == 1)
+}
+
+// A reason stands: some track is calling or a hold is on, or some track is unsure.
 pub fn stands(c: Crossing) -> bool
     ensures { λ r. ⌜ r ≡ reason c ⌝ }
 {
     let calling = c.calling;
-    (c.kiosk == 1) | (c.operator == 1) | any_calling(calling)
+    let unsure = c.unsure;
+    (c.kiosk == 1) | (c.operator == 1) | any_calling(calling) | any_unsure(unsure)
 }
 
 // The phase after settling.

@@ -16,7 +16,7 @@ use Rattle.machine.specs.Step.{step}
 use Rattle.machine.specs.Sheet.{counted, ran}
 use Rattle.machine.specs.Plant.{no-entry, entry, crossing}
 use Rattle.machine.specs.Events.{is, refusal, number}
-use Rattle.machine.specs.Effects.{act}
+use Rattle.machine.specs.Effects.{sweeps, act}
 use Rattle.machine.specs.Settling.{settle}
 use Rattle.machine.proofs.Taken.{refused-answer}
 use Rattle.machine.proofs.Stays.{stays-in-range}
@@ -36,6 +36,11 @@ pub record Played (p : Plant) (f : ℕ → Event) (k : ℕ) (q : Plant) (taken r
   pub eight : length (q .crossings) ≡ 8
   pub counts : taken + refused ≡ k
   pub bound : written ≤ 16320 * k
+
+-- an event of one crossing writes off one train at most
+one-at-most : (b : Bool) → bit b 1 ≤ 1
+one-at-most true = omega arith
+one-at-most false = omega arith
 
 module _ (p : Plant) (f : ℕ → Event) where
   pub played-none : in-range p ≡ true → length (p .crossings) ≡ 8 → Played p f 0 p 0 0 0
@@ -92,5 +97,7 @@ module _ (p : Plant) (f : ℕ → Event) where
     own-room-at n z = rw (own-place n z .1) (own-room q e n z)
 
     pub played-own : number q e ≡ 0 → is 0 e ≡ false
-        → Played p f (suc k) (record { site = q .site; beat = q .beat; crossings = set (q .crossings) (e .crossing) (settle (entry q (e .crossing)) 0 (act (entry q (e .crossing)) (crossing q (e .crossing)) e)) }) (t + 1) r w
-    played-own n z = simp add-zero at (played-next k q t r w h _ (own-step q e (h .eight) n z) (length-set (q .crossings) (e .crossing) (settle (entry q (e .crossing)) 0 (act (entry q (e .crossing)) (crossing q (e .crossing)) e)) ∙ h .eight) (omega arith))
+        → Played p f (suc k) (record { site = q .site; beat = q .beat; crossings = set (q .crossings) (e .crossing) (settle (entry q (e .crossing)) 0 (act (entry q (e .crossing)) (crossing q (e .crossing)) e)) }) (t + 1) r (w + bit (sweeps (crossing q (e .crossing)) e) 1)
+    played-own n z =
+        let one = one-at-most (sweeps (crossing q (e .crossing)) e) in
+        simp add-zero at (played-next k q t r w h _ (own-step q e (h .eight) n z) (length-set (q .crossings) (e .crossing) (settle (entry q (e .crossing)) 0 (act (entry q (e .crossing)) (crossing q (e .crossing)) e)) ∙ h .eight) (omega arith))

@@ -80,8 +80,10 @@ fn play(p: Plant, sheet: &[u8], m: usize) -> Run
             written += all.written;
             continue;
         }
+        let off = effect::written_off(c, t);
         let d = effect::apply(s, c, t);
         crossings[j] = d;
+        written += off;
     }
     ended(site, beat, crossings, taken, refused, written)
 }

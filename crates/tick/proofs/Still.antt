@@ -11,6 +11,7 @@ use Rattle.machine.proofs.Tools.{tab-getD}
 pub record Tracks (c : Crossing) : Type 0 where
   pub calling : length (c .calling) ≡ 4
   pub waiting : length (c .waiting) ≡ 4
+  pub unsure : length (c .unsure) ≡ 4
 
 abbrev counted : Crossing → ℕ → ℕ → Crossing
 counted c countdown timer = record {
@@ -18,6 +19,7 @@ counted c countdown timer = record {
   waiting = c .waiting;
   route = c .route;
   occupied = c .occupied;
+  unsure = c .unsure;
   booms = c .booms;
   lamps = c .lamps;
   kiosk = c .kiosk;
@@ -34,4 +36,4 @@ same-counts c d t = rw (← d, ← t)
 -- where neither the countdown nor the timer runs, a tick leaves the crossing to settle as it is
 pub still-ticks : (s : Entry) (c : Crossing) → c .countdown ≡ 0 → c .timer ≡ 0 → Tracks c → tick s c ≡ c
 unfolding tick phase-ticked timer-ticked
-still-ticks s c d t z = simp (d, t, tab-getD 4 (c .calling) 0 (z .calling), tab-getD 4 (c .waiting) 0 (z .waiting)) (same-counts c d t)
+still-ticks s c d t z = simp (d, t, tab-getD 4 (c .calling) 0 (z .calling), tab-getD 4 (c .waiting) 0 (z .waiting), tab-getD 4 (c .unsure) 0 (z .unsure)) (same-counts c d t)

@@ -47,7 +47,8 @@ fn lowered(count: u16) -> u16
     if 0 < count { count - 1 } else { 0 }
 }
 
-// The countdown, then the timer, by 1; a countdown that reaches 0 clears the trains of the crossing.
+// The countdown, then the timer, by 1; a countdown that reaches 0 clears the trains of the crossing, and no track stays
+// unsure (document 02, T-01).
 fn run_down(s: Entry, c: Crossing) -> Crossing
     ensures { λ r. ⌜ r ≡ tick s c ⌝ }
 {
@@ -62,6 +63,7 @@ fn run_down(s: Entry, c: Crossing) -> Crossing
     if releases {
         d.calling = [0; 4];
         d.waiting = [0; 4];
+        d.unsure = [0; 4];
         return d;
     }
     d

@@ -15,9 +15,9 @@ use Rattle.machine.specs.declared.Entry.{Entry}
 use Rattle.machine.specs.declared.Crossing.{Crossing}
 use Rattle.machine.specs.declared.Event.{Event}
 use Rattle.machine.specs.Common.{tab, bit}
-use Rattle.machine.specs.Plant.{release-ticks, calling, waiting, route, occupied}
+use Rattle.machine.specs.Plant.{release-ticks, calling, waiting}
 use Rattle.machine.specs.Events.{is}
-use Rattle.machine.specs.Effects.{calls, calling-after, waiting-after, cancels, act}
+use Rattle.machine.specs.Effects.{calls, sweeps, calling-after, waiting-after, unsure-after, cancels, act}
 use Rattle.machine.proofs.Tools.{tab-same, tab-getD, tab-set}
 
 -- A table that changes at one place ------------------------------------------------------------------------------------------------
@@ -43,14 +43,20 @@ module _ {A : Type 0} (n : ℕ) (l : List A) (d : A) (i : ℕ) (len : length l �
   stored-if true false v = simp and-false unchanged
   stored-if false w v = unchanged
 
-  -- a strike-in, a passage, a route set
-  queue : (b1 b2 b5 w : Bool) (v1 v2 v5 : ℕ → A) →
-      tab n (λ t. cond (b1 && eqb i t) (v1 t) (cond (b2 && eqb i t) (v2 t) (cond (b5 && eqb i t && w) (v5 t) (getD l t d))))
-      ≡ cond b1 (set l i (v1 i)) (cond b2 (set l i (v2 i)) (cond (b5 && w) (set l i (v5 i)) l))
-  queue b1 b2 b5 w v1 v2 v5 =
-      layer b1 v1 _ (λ t q. rw (q, and-false b2, and-false b5) refl)
+  -- where b holds the list stays
+  left : (b : Bool) (g : ℕ → A) {m : List A} → tab n g ≡ m → tab n (λ t. cond b (getD l t d) (g t)) ≡ cond b l m
+  left true g k = unchanged
+  left false g k = k
+
+  -- a strike-in on a full track, a strike-in, a passage, a route set
+  queue : (b0 b1 b2 b5 w : Bool) (v1 v2 v5 : ℕ → A) →
+      tab n (λ t. cond b0 (getD l t d) (cond (b1 && eqb i t) (v1 t) (cond (b2 && eqb i t) (v2 t) (cond (b5 && eqb i t && w) (v5 t) (getD l t d)))))
+      ≡ cond b0 l (cond b1 (set l i (v1 i)) (cond b2 (set l i (v2 i)) (cond (b5 && w) (set l i (v5 i)) l)))
+  queue b0 b1 b2 b5 w v1 v2 v5 =
+      left b0 _
+      (layer b1 v1 _ (λ t q. rw (q, and-false b2, and-false b5) refl)
       (layer b2 v2 _ (λ t q. rw (q, and-false b5) refl)
-      (stored-if b5 w v5))
+      (stored-if b5 w v5)))
 
 -- a store of what stands there
 set-kept : {A : Type 0} (l : List A) (i : ℕ) (d : A) {v : A} → getD l i d ≡ v → set l i v ≡ l
@@ -63,6 +69,7 @@ record Sized (c : Crossing) : Type 0 where
   pub waiting : length (c .waiting) ≡ 4
   pub route : length (c .route) ≡ 4
   pub occupied : length (c .occupied) ≡ 4
+  pub unsure : length (c .unsure) ≡ 4
   pub booms : length (c .booms) ≡ 4
   pub lamps : length (c .lamps) ≡ 5
 
@@ -72,8 +79,9 @@ sized c vs p = record {
   waiting = search (p .1 .1 .1 .0, needs);
   route = search (p .1 .1 .1 .1 .0, needs);
   occupied = search (p .1 .1 .1 .1 .1 .0, needs);
-  booms = search (p .1 .1 .1 .1 .1 .1 .0, needs);
-  lamps = search (p .1 .1 .1 .1 .1 .1 .1 .0, needs);
+  unsure = search (p .1 .1 .1 .1 .1 .1 .0, needs);
+  booms = search (p .1 .1 .1 .1 .1 .1 .1 .0, needs);
+  lamps = search (p .1 .1 .1 .1 .1 .1 .1 .1 .0, needs);
 }
 
 module _ (s : Entry) (c : Crossing) (e : Event) where
@@ -87,17 +95,20 @@ module _ (s : Entry) (c : Crossing) (e : Event) where
   abbrev pub stores : Crossing
   stores = record {
     calling =
-        cond (is 1 e) (set (c .calling) at (calling c at + bit (calls s c at) 1))
+        cond (sweeps c e) (c .calling)
+        (cond (is 1 e) (set (c .calling) at (calling c at + bit (calls s c at) 1))
         (cond (is 2 e) (set (c .calling) at (pred (calling c at)))
         (cond (is 5 e && on) (set (c .calling) at (calling c at + waiting c at))
-        (c .calling)));
+        (c .calling))));
     waiting =
-        cond (is 1 e) (set (c .waiting) at (waiting c at + bit (not (calls s c at)) 1))
+        cond (sweeps c e) (c .waiting)
+        (cond (is 1 e) (set (c .waiting) at (waiting c at + bit (not (calls s c at)) 1))
         (cond (is 2 e) (set (c .waiting) at (waiting c at - bit (eqb (calling c at) 0) 1))
         (cond (is 5 e && on) (set (c .waiting) at 0)
-        (c .waiting)));
+        (c .waiting))));
     route = cond (is 5 e) (set (c .route) at (e .value)) (c .route);
     occupied = cond (is 6 e) (set (c .occupied) at (e .value)) (c .occupied);
+    unsure = cond (sweeps c e) (set (c .unsure) at 1) (c .unsure);
     booms = cond (is 8 e) (set (c .booms) at (e .value)) (c .booms);
     lamps = cond (is 9 e) (set (c .lamps) at (e .value)) (c .lamps);
     kiosk = cond (is 3 e) (e .value) (c .kiosk);
@@ -109,12 +120,13 @@ module _ (s : Entry) (c : Crossing) (e : Event) where
   }
 
   pub act-stores : (vs : List Val) → Is (row the-type) c vs → act s c e ≡ stores
-  unfolding act calling-after waiting-after
+  unfolding act calling-after waiting-after unsure-after
   act-stores vs p = let z = sized c vs p in simp (
-    queue 4 (c .calling) 0 at (z .calling) (is 1 e) (is 2 e) (is 5 e) on (λ t. calling c t + bit (calls s c t) 1) (λ t. pred (calling c t)) (λ t. calling c t + waiting c t),
-    queue 4 (c .waiting) 0 at (z .waiting) (is 1 e) (is 2 e) (is 5 e) on (λ t. waiting c t + bit (not (calls s c t)) 1) (λ t. waiting c t - bit (eqb (calling c t) 0) 1) (λ t. 0),
+    queue 4 (c .calling) 0 at (z .calling) (sweeps c e) (is 1 e) (is 2 e) (is 5 e) on (λ t. calling c t + bit (calls s c t) 1) (λ t. pred (calling c t)) (λ t. calling c t + waiting c t),
+    queue 4 (c .waiting) 0 at (z .waiting) (sweeps c e) (is 1 e) (is 2 e) (is 5 e) on (λ t. waiting c t + bit (not (calls s c t)) 1) (λ t. waiting c t - bit (eqb (calling c t) 0) 1) (λ t. 0),
     stored 4 (c .route) 0 at (z .route) (is 5 e) (λ t. e .value),
     stored 4 (c .occupied) 0 at (z .occupied) (is 6 e) (λ t. e .value),
+    stored 4 (c .unsure) 0 at (z .unsure) (sweeps c e) (λ t. 1),
     stored 4 (c .booms) 0 at (z .booms) (is 8 e) (λ t. e .value),
     stored 5 (c .lamps) 0 at (z .lamps) (is 9 e) (λ t. e .value),
   )
@@ -126,6 +138,7 @@ module _ (s : Entry) (c : Crossing) (e : Event) where
     waiting = set (c .waiting) at (waiting c at - 1);
     route = c .route;
     occupied = c .occupied;
+    unsure = c .unsure;
     booms = c .booms;
     lamps = c .lamps;
     kiosk = c .kiosk;
@@ -147,6 +160,7 @@ module _ (s : Entry) (c : Crossing) (e : Event) where
     waiting = set (c .waiting) at 0;
     route = set (c .route) at (e .value);
     occupied = c .occupied;
+    unsure = c .unsure;
     booms = c .booms;
     lamps = c .lamps;
     kiosk = c .kiosk;

@@ -4,7 +4,7 @@ use mathlib.Core.Bool.{false, cond}
 use Prim.Native.Nat.{ℕ, _≤_, _<_}
 use native.Mathlib.Omega.{arith}
 use native.Mathlib.Nat.{le-refl}
-use lib.Dec.{eqb, leb, lit≤}
+use lib.Dec.{eqb, lit≤}
 use borrow.Author.Tests.{eqb-true}
 use Rattle.machine.specs.declared.Entry.{Entry}
 use Rattle.machine.specs.declared.Crossing.{Crossing}
@@ -44,10 +44,7 @@ taken-room n s c e g h q =
       place = omega (arith, p, l);
       most = by-cond (λ x. x ≤ full) (on-track (e .code))
           (λ o. let t : e .place < s .tracks = rw o at p in
-          let f = h .track (e .place) (omega arith) .few in
-          by-test (is 1 e)
-          (λ i. let r = a .room i in rw i (omega arith))
-          (λ i. rw i (omega arith)))
+          h .track (e .place) (omega arith) .few)
           (λ _. lit≤ tt);
       least = by-cond (λ x. x ≤ trains c (e .place)) (is 2 e) (λ i. let r = a .there i in omega arith) (λ _. omega arith);
     }

@@ -7,7 +7,8 @@ ghost use mathlib.Core.Path.{_≡_};
 ghost use Rattle.machine.specs.Effects.{act};
 ghost use Rattle.train.specs.Room.{Room};
 
-// Strike-in: calling + 1 on a plain track or with the route set, otherwise waiting + 1.
+// Strike-in: calling + 1 on a plain track or with the route set, otherwise waiting + 1. A full track keeps its counts and
+// becomes unsure (document 02, T-01).
 pub fn strike_in(s: Entry, c: Crossing, e: Event) -> Crossing
     requires { ⌜ (e .code ≡ 1) × Room c e ⌝ }
     ensures { λ r. ⌜ r ≡ act s c e ⌝ }
@@ -15,6 +16,10 @@ pub fn strike_in(s: Entry, c: Crossing, e: Event) -> Crossing
     let t = e.place as usize;
     let mut d = c;
     d.countdown = 0;
+    if track::full(c, t) {
+        d.unsure[t] = 1;
+        return d;
+    }
     if !kind::dependent(s, t) | (c.route[t] == 1) {
         d.calling[t] = c.calling[t] + 1;
         return d;

@@ -1,13 +1,13 @@
 -- What each case of a verdict says, in document 01's numbers.
 use mathlib.Core.Bool.{Bool, true, false, not, _&&_}
 use Prim.Native.Nat.{ℕ}
-use lib.Dec.{eqb, leb}
+use lib.Dec.{eqb}
 use Rattle.machine.specs.declared.Entry.{Entry}
 use Rattle.machine.specs.declared.Crossing.{Crossing}
 use Rattle.machine.specs.declared.Event.{Event}
 use Rattle.machine.specs.Common.{refuse}
-use Rattle.machine.specs.Numbers.{track-full, no-train, train-calling, not-clear, not-dependent}
-use Rattle.machine.specs.Plant.{full, trains, dependent}
+use Rattle.machine.specs.Numbers.{no-train, train-calling, not-clear, not-dependent}
+use Rattle.machine.specs.Plant.{trains, dependent}
 use Rattle.machine.specs.Events.{is, is-to, any-calling, blocked}
 use Rattle.verdict.specs.declared.Verdict.{Verdict}
 use Rattle.verdict.specs.declared.Verdict.the-variants.{Take, Refuse}
@@ -30,8 +30,7 @@ verdict number e = pick (eqb number 0) (Take e) (Refuse number)
 unfoldable pub state-refusal : Entry → Crossing → Event → ℕ
 state-refusal s c e =
     refuse (is 5 e && not (dependent s (e .place))) not-dependent
-    (refuse (is 1 e && leb full (trains c (e .place))) track-full
     (refuse (is 2 e && eqb (trains c (e .place)) 0) no-train
     (refuse (is-to 4 0 e && any-calling c) train-calling
     (refuse (is 7 e && blocked c) not-clear
-    0))))
+    0)))

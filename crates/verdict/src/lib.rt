@@ -8,7 +8,6 @@ ghost use mathlib.Core.Path.{_≡_};
 ghost use Prim.Native.Nat.{_≤_};
 ghost use lib.Dec.{eqb};
 ghost use Rattle.machine.specs.Common.{refuse};
-ghost use Rattle.machine.specs.Plant.{trains};
 ghost use Rattle.machine.specs.Events.{crossing-limit, place-limit, value-limit, any-calling, blocked, refusal};
 ghost use Rattle.verdict.specs.Cases.{number-of, verdict, state-refusal};
 
@@ -55,17 +54,6 @@ fn value_limit(code: u8) -> u8
     }
 }
 
-// The trains of the track at a place; none at a place that is no track.
-fn trains_at(c: Crossing, place: u8) -> u16
-    ensures { λ r. ⌜ r ≡ trains c place ⌝ }
-{
-    let t = place as usize;
-    if t < 4 {
-        return word::wide(c.calling[t]) + word::wide(c.waiting[t]);
-    }
-    0
-}
-
 // Operator hold off while some track is calling, hold on or not.
 fn held_by_train(c: Crossing, value: u8) -> bool
     ensures { λ r. ⌜ r ≡ (eqb value 0 && any-calling c) ⌝ }
@@ -97,18 +85,16 @@ fn refuse_if(refused: bool, number: u8, e: Event) -> Verdict
     Verdict::Take(e)
 }
 
-// An event of the table, by what its crossing holds: 13, then 9 to 12.
+// An event of the table, by what its crossing holds: 13, then 10 to 12.
 fn judge_state(s: Entry, c: Crossing, e: Event) -> Verdict
     ensures { λ r. ⌜ r ≡ verdict (state-refusal s c e) e ⌝ }
 {
     let code = e.code;
     match code {
-        1 => refuse_if(
-            word::wide(Crossing::FULL) <= trains_at(c, e.place),
-            numbers::TRACK_FULL,
-            e,
-        ),
-        2 => refuse_if(trains_at(c, e.place) == 0, numbers::NO_TRAIN, e),
+        2 => {
+            let t = e.place as usize;
+            refuse_if(track::trains(c, t) == 0, numbers::NO_TRAIN, e)
+        }
         4 => refuse_if(held_by_train(c, e.value), numbers::TRAIN_CALLING, e),
         5 => {
             let t = e.place as usize;

@@ -161,6 +161,7 @@ fn lower_records(c: &Crossing) -> Vec<Crossing> {
         for i in 0..4 {
             with(&|c| c.route[i] = flag);
             with(&|c| c.occupied[i] = flag);
+            with(&|c| c.unsure[i] = flag);
         }
         for i in 0..5 {
             with(&|c| c.lamps[i] = flag);

@@ -3,8 +3,8 @@
 use engine::{book_len, in_range, panel_len, Plant, Site, MAX_EVENTS};
 use gen::{
     all_lengths, book, coherent, damaged_book, damaged_sheet, event, event_grid, every_flag, frame,
-    junk_event, mixed, plant, quick_site, sheet_bytes, site, spoilt_plant, BookDamage, Rng,
-    SheetDamage, Spoil,
+    junk_event, mixed, plant, quick_site, sheet_bytes, site, spoilt_plant, swept_event, swept_grid,
+    swept_plant, BookDamage, Rng, SheetDamage, Spoil,
 };
 
 /// An input; frames hold the bytes lent.
@@ -57,7 +57,8 @@ impl Case {
     }
 
     /// The cases that do not depend on a seed: books of every length, a grid of events and
-    /// frames of every length on a few plants, and every value of every flag.
+    /// frames of every length on a few plants, swept counters at every kind, and every value
+    /// of every flag.
     pub fn fixed() -> impl Iterator<Item = Case> {
         let books = all_lengths().into_iter().map(|book| Case::Read { book });
         let rng = &mut Rng::new(0);
@@ -67,6 +68,9 @@ impl Case {
             let events = events.map(move |event| Case::Event { plant, event });
             events.chain(all_frames(&plant))
         });
+        let swept = swept_grid().into_iter();
+        let swept = swept.map(|(plant, event)| Case::Event { plant, event });
+        let grids = grids.chain(swept);
         books.chain(grids).chain(every_flag().flat_map(calls))
     }
 
@@ -156,6 +160,11 @@ fn any_plant(rng: &mut Rng) -> Plant {
 }
 
 fn event_case(rng: &mut Rng) -> Case {
+    if rng.once_in(8) {
+        let (plant, crossing) = swept_plant(rng);
+        let event = swept_event(rng, &plant, crossing);
+        return Case::Event { plant, event };
+    }
     let plant = any_plant(rng);
     let event = match rng.below(4) {
         0 => junk_event(rng, &plant),
@@ -172,8 +181,11 @@ fn draw_case(rng: &mut Rng) -> Case {
 }
 
 fn run_case(rng: &mut Rng) -> Case {
-    let spoilt = rng.once_in(8);
-    let plant = if spoilt { any_plant(rng) } else { plant(rng) };
+    let plant = match rng.below(8) {
+        0 => any_plant(rng),
+        1 => swept_plant(rng).0,
+        _ => plant(rng),
+    };
     let len = rng.within(0..=40) as usize;
     let events = match in_range(&plant) && rng.flag() {
         true => coherent(rng, &plant, len),

@@ -1,4 +1,5 @@
-//! The chart rows of document 01 that carry no star, played on an engine.
+//! The chart rows of document 01 that carry no star, one of them as document 02, T-01, has it,
+//! played on an engine.
 
 use crate::Engine;
 use engine::{number, Plant};
@@ -6,27 +7,101 @@ use gen::book_bytes;
 
 const TICK: [u8; 4] = [0, 0, 0, 0];
 const STRIKE_IN: [u8; 4] = [1, 0, 0, 0];
+const RELEASE: [u8; 4] = [7, 0, 0, 0];
 
-/// One crossing of a kind, one plain track, F 2 and for kind 4 G 1.
-fn fresh(engine: &dyn Engine, kind: u8) -> Plant {
+/// One crossing of a kind, one track by this mask, F 2 and for kind 4 G 1.
+fn fresh(engine: &dyn Engine, kind: u8, mask: u8) -> Plant {
     let mut site = engine::Site::ZERO;
     site.n = 1;
     site.entries[0] = engine::Entry {
         kind,
         tracks: 1,
-        mask: 0,
+        mask,
         pre: 2,
         gap: u16::from(kind == 4),
     };
     engine.read_book(&book_bytes(&site)).1
 }
 
-/// Strike-in 255 is taken, 256 is number 9.
-fn full_track(engine: &dyn Engine, kind: u8) -> bool {
-    let mut plant = fresh(engine, kind);
-    let taken = (0..255).all(|_| engine.event(&mut plant, STRIKE_IN) == (number::TAKEN, 0));
-    let full = engine.event(&mut plant, STRIKE_IN) == (number::FULL_TRACK, 0);
-    taken && full && plant.crossings[0].calling[0] == 255
+/// A track for the row of document 02, T-01, and what it holds with 255 trains.
+struct Track {
+    name: &'static str,
+    mask: u8,
+    /// Put before the strike-ins, and before the release.
+    first: &'static [[u8; 4]],
+    last: &'static [[u8; 4]],
+    calling: u8,
+    waiting: u8,
+    phase: u8,
+}
+
+const TRACKS: [Track; 3] = [
+    Track {
+        name: "plain",
+        mask: 0,
+        first: &[],
+        last: &[],
+        calling: 255,
+        waiting: 0,
+        phase: 1,
+    },
+    Track {
+        name: "dependent with its route",
+        mask: 1,
+        first: &[[5, 0, 0, 1]],
+        last: &[[5, 0, 0, 0]],
+        calling: 255,
+        waiting: 0,
+        phase: 1,
+    },
+    // Trains that wait close nothing: the road closes by the flag alone.
+    Track {
+        name: "dependent without a route",
+        mask: 1,
+        first: &[],
+        last: &[],
+        calling: 0,
+        waiting: 255,
+        phase: 0,
+    },
+];
+
+/// Whether so many of an event are taken, each writing off so many trains.
+fn takes(engine: &dyn Engine, plant: &mut Plant, e: [u8; 4], count: u32, off: u32) -> bool {
+    (0..count).all(|_| engine.event(plant, e) == (number::TAKEN, off))
+}
+
+/// Whether the crossing holds these: calling, waiting, unsure, phase.
+fn holds(plant: &Plant, calling: u8, waiting: u8, unsure: u8, phase: u8) -> bool {
+    let c = &plant.crossings[0];
+    let track = (c.calling, c.waiting, c.unsure);
+    let first = |value| [value, 0, 0, 0];
+    track == (first(calling), first(waiting), first(unsure)) && c.phase == phase
+}
+
+/// Strike-in 255 is taken. 256 is taken, written off 1, still 255, and so is the next; 270 ticks
+/// after a release the flag is gone with 255 written off.
+fn swept(engine: &dyn Engine, kind: u8, track: &Track) -> bool {
+    let Track {
+        calling, waiting, ..
+    } = *track;
+    let p = &mut fresh(engine, kind, track.mask);
+    let full = track.first.iter().all(|e| takes(engine, p, *e, 1, 0))
+        && takes(engine, p, STRIKE_IN, 255, 0)
+        && holds(p, calling, waiting, 0, track.phase);
+    let unsure = takes(engine, p, STRIKE_IN, 1, 1)
+        && holds(p, calling, waiting, 1, 1)
+        && takes(engine, p, STRIKE_IN, 1, 1)
+        && holds(p, calling, waiting, 1, 1);
+    let begun = track.last.iter().all(|e| takes(engine, p, *e, 1, 0))
+        && takes(engine, p, RELEASE, 1, 0)
+        && takes(engine, p, TICK, 269, 0)
+        && holds(p, calling, waiting, 1, 3);
+    let released = takes(engine, p, TICK, 1, 255)
+        && holds(p, 0, 0, 0, if kind == 1 { 0 } else { 4 })
+        && takes(engine, p, TICK, 1, 0)
+        && holds(p, 0, 0, 0, 0);
+    full && unsure && begun && released
 }
 
 /// The bit of byte 9 for a crossing that is out of normal for too long.
@@ -38,7 +113,7 @@ fn overdue(engine: &dyn Engine, plant: &Plant) -> Option<bool> {
 
 /// After a strike-in, 900 ticks leave bit 4 clear, 901 set it.
 fn long_out(engine: &dyn Engine, kind: u8) -> bool {
-    let mut plant = fresh(engine, kind);
+    let mut plant = fresh(engine, kind, 0);
     engine.event(&mut plant, STRIKE_IN);
     let ticked = (0..900).all(|_| engine.event(&mut plant, TICK) == (number::TAKEN, 0));
     let clear = overdue(engine, &plant) == Some(false);
@@ -50,8 +125,9 @@ fn long_out(engine: &dyn Engine, kind: u8) -> bool {
 pub fn failing(engine: &dyn Engine) -> Vec<String> {
     let mut failing = Vec::new();
     for kind in 1..=4 {
-        if !full_track(engine, kind) {
-            failing.push(format!("strike-in 255 and 256, kind {kind}"));
+        for track in TRACKS.iter().filter(|track| !swept(engine, kind, track)) {
+            let name = track.name;
+            failing.push(format!("strike-in 255 and 256, kind {kind}, {name}"));
         }
         if !long_out(engine, kind) {
             failing.push(format!("900 and 901 ticks out of normal, kind {kind}"));

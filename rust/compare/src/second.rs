@@ -81,8 +81,8 @@ macro_rules! entry {
 macro_rules! crossing {
     ($from:expr => $($to:ident)::+) => {
         fields!($from => $($to)::+ {
-            calling, waiting, route, occupied, booms, lamps, kiosk, operator, countdown, phase,
-            timer, out
+            calling, waiting, route, occupied, unsure, booms, lamps, kiosk, operator, countdown,
+            phase, timer, out
         })
     };
 }

@@ -47,7 +47,7 @@ fn site_weight(site: &Site) -> u64 {
 }
 
 fn crossing_weight(c: &Crossing) -> u64 {
-    let bytes = [c.calling, c.waiting, c.booms, c.route, c.occupied].concat();
+    let bytes = [c.calling, c.waiting, c.booms, c.route, c.occupied, c.unsure].concat();
     let lamps = c.lamps.map(|whole| whole.abs_diff(1));
     let bytes = bytes.iter().chain(&lamps);
     let counts = [c.countdown, c.timer, c.out];

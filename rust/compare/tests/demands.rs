@@ -1,5 +1,6 @@
-//! The train account, the passage rule and the opening tick over generated sessions,
-//! with reasons and trains worked out from the list of events alone.
+//! The train account, the passage rule and the opening tick over generated sessions, and
+//! document 02, T-01, that an unsure track keeps its crossing out of normal position: with
+//! reasons and trains worked out from the list of events alone.
 
 use compare::case::Case;
 use engine::{draw, event, panel_len, Entry, Plant, Site, PANEL};
@@ -12,6 +13,7 @@ struct Account {
     written_off: u32,
     calling: [u32; 4],
     waiting: [u32; 4],
+    unsure: [bool; 4],
     route: [bool; 4],
     holds: [bool; 2],
     countdown: u32,
@@ -23,13 +25,21 @@ struct Account {
 
 impl Account {
     fn reason(&self) -> bool {
-        self.calling != [0; 4] || self.holds != [false; 2]
+        self.calling != [0; 4] || self.is_unsure() || self.holds != [false; 2]
+    }
+
+    fn is_unsure(&self) -> bool {
+        self.unsure != [false; 4]
     }
 
     fn strike_in(&mut self, entry: &Entry, t: usize) {
         self.struck_in += 1;
         self.countdown = 0;
         match entry.mask >> t & 1 == 0 || self.route[t] {
+            _ if self.calling[t] + self.waiting[t] == 255 => {
+                self.written_off += 1;
+                self.unsure[t] = true;
+            }
             true => self.calling[t] += 1,
             false => self.waiting[t] += 1,
         }
@@ -57,6 +67,7 @@ impl Account {
             self.written_off += trains.sum::<u32>();
             self.calling = [0; 4];
             self.waiting = [0; 4];
+            self.unsure = [false; 4];
         }
         self.countdown = self.countdown.saturating_sub(1);
         self.stood += 1;
@@ -102,13 +113,16 @@ fn play(accounts: &mut [Account; 8], site: &Site, e: [u8; 4]) {
     }
 }
 
-/// The three parts at one crossing after the list.
+/// The parts at one crossing after the list.
 fn hold(account: &Account, plant: &Plant, i: usize, panel: &[u8]) {
     let (entry, record) = (&plant.site.entries[i], &plant.crossings[i]);
     let trains = record.calling.iter().chain(&record.waiting);
     let there: u32 = trains.map(|t| u32::from(*t)).sum();
     let gone = account.passed + account.written_off;
     assert_eq!(account.struck_in, gone + there);
+    if account.is_unsure() {
+        assert_eq!(panel[9] & 1, 0);
+    }
     if panel[6] == 2 || panel[8] != 0 {
         assert!(account.reason() && account.closed(entry.kind) && !account.red_dead);
         assert!(account.stood >= u32::from(entry.pre + entry.gap));
@@ -146,7 +160,7 @@ fn session(site: &Site, events: &[[u8; 4]]) {
 }
 
 #[test]
-fn the_three_parts_hold_after_every_event() {
+fn the_parts_hold_after_every_event() {
     for index in 0..1500 {
         let Case::Session { site, events } = Case::session(9, index) else {
             panic!("not a session");

@@ -13,14 +13,15 @@ const CASES: u64 = 10_000;
 const SESSIONS: u64 = 400;
 
 /// Faults that no list of events from a fresh plant can show: in the lent frames, in the
-/// order of refusals of a book, in spoilt plants, and a repeated hold, since a hold stands
-/// in the way of a running countdown.
-const NOT_FROM_FRESH: [&str; 16] = [
+/// order of refusals of a book, in spoilt plants, a repeated hold, since a hold stands in the
+/// way of a running countdown, and normal position with an unsure track, which is never reached.
+const NOT_FROM_FRESH: [&str; 20] = [
     "book_any_gap",
     "book_frame_first",
     "book_length_first",
     "book_past_n",
     "countdown_repeated_hold",
+    "normal_not_unsure",
     "panel_draw_refused",
     "range_flags",
     "range_flags_lamps",
@@ -30,17 +31,21 @@ const NOT_FROM_FRESH: [&str; 16] = [
     "range_lacking_boom",
     "range_lamps_past_n",
     "range_out",
+    "range_unsure_above_1",
+    "range_unsure_lacking",
+    "range_unsure_past_n",
     "range_waiting_plain",
     "sheet_frame_first",
 ];
 
 /// Faults that no plant shows whose flags are all 0 or 1.
-const ONLY_BY_FLAGS: [&str; 5] = [
+const ONLY_BY_FLAGS: [&str; 6] = [
     "range_flags",
     "range_flags_lamps",
     "range_flags_one_byte",
     "range_flags_past_n",
     "range_flags_signed",
+    "range_unsure_above_1",
 ];
 
 #[test]

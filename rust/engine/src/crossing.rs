@@ -10,10 +10,10 @@ pub fn is_held(record: &Crossing) -> bool {
     record.kiosk | record.operator != 0
 }
 
-/// Some track is calling or a hold is on.
+/// Some track is calling or unsure (document 02, T-01), or a hold is on.
 #[inline]
 pub fn has_reason(record: &Crossing) -> bool {
-    record.calling != [0; 4] || is_held(record)
+    record.calling != [0; 4] || record.unsure != [0; 4] || is_held(record)
 }
 
 /// Booms that the crossing lacks are held as up.
@@ -49,7 +49,8 @@ fn go(record: &mut Crossing, phase: u8, timer: u16) {
     record.timer = timer;
 }
 
-/// Lowers a running countdown; at its end clears all trains and gives their number.
+/// Lowers a running countdown; at its end clears all trains and gives their number. No track
+/// is unsure any more, which writes nothing off (document 02, T-01).
 #[inline]
 pub fn count_down(record: &mut Crossing) -> u32 {
     if record.countdown == 0 {
@@ -63,6 +64,7 @@ pub fn count_down(record: &mut Crossing) -> u32 {
     let written_off = trains.map(|t| u32::from(*t)).sum();
     record.calling = [0; 4];
     record.waiting = [0; 4];
+    record.unsure = [0; 4];
     written_off
 }
 

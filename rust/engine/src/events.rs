@@ -52,10 +52,10 @@ pub fn apply(plant: &mut Plant, event: [u8; 4]) -> Result<u32, u8> {
     }
     let entry = &plant.site.entries[usize::from(crossing)];
     let record = &mut plant.crossings[usize::from(crossing)];
-    take(record, entry, code, place, value)?;
+    let written_off = take(record, entry, code, place, value)?;
     settle(record, entry);
     count_out(record, false);
-    Ok(0)
+    Ok(written_off)
 }
 
 fn tick(plant: &mut Plant) -> u32 {
@@ -84,9 +84,10 @@ fn limits(entry: &Entry, code: u8) -> (u8, u8) {
     }
 }
 
-/// Everything an event other than a tick does before the crossing settles.
+/// Everything an event other than a tick does before the crossing settles; gives the trains
+/// written off.
 #[inline]
-fn take(record: &mut Crossing, entry: &Entry, code: u8, place: u8, value: u8) -> Result<(), u8> {
+fn take(record: &mut Crossing, entry: &Entry, code: u8, place: u8, value: u8) -> Result<u32, u8> {
     let (places, values) = limits(entry, code);
     if place >= places {
         return Err(number::UNKNOWN_PLACE);
@@ -95,8 +96,9 @@ fn take(record: &mut Crossing, entry: &Entry, code: u8, place: u8, value: u8) ->
         return Err(number::UNKNOWN_VALUE);
     }
     let place = usize::from(place);
+    let mut written_off = 0;
     match code {
-        code::STRIKE_IN => strike_in(record, entry, place)?,
+        code::STRIKE_IN => written_off = strike_in(record, entry, place),
         code::PASSAGE => passage(record, place)?,
         code::KIOSK_HOLD => record.kiosk = value,
         code::OPERATOR_HOLD => operator_hold(record, value)?,
@@ -114,19 +116,22 @@ fn take(record: &mut Crossing, entry: &Entry, code: u8, place: u8, value: u8) ->
     if cancels {
         record.countdown = 0;
     }
-    Ok(())
+    Ok(written_off)
 }
 
-fn strike_in(record: &mut Crossing, entry: &Entry, track: usize) -> Result<(), u8> {
+/// On a full track the counts stay, the track becomes unsure and the train is written off at
+/// once (document 02, T-01). Gives the trains written off.
+fn strike_in(record: &mut Crossing, entry: &Entry, track: usize) -> u32 {
     if u16::from(record.calling[track]) + u16::from(record.waiting[track]) >= FULL {
-        return Err(number::FULL_TRACK);
+        record.unsure[track] = 1;
+        return 1;
     }
     if !entry.depends(track) || record.route[track] != 0 {
         record.calling[track] += 1;
     } else {
         record.waiting[track] += 1;
     }
-    Ok(())
+    0
 }
 
 fn passage(record: &mut Crossing, track: usize) -> Result<(), u8> {

@@ -34,7 +34,7 @@ pub fn entries_in_range(site: &Site) -> bool {
 
 fn track_in_range(record: &Crossing, entry: &Entry, t: usize) -> bool {
     let trains = u16::from(record.calling[t]) + u16::from(record.waiting[t]);
-    let free = record.calling[t] == 0 && record.occupied[t] == 0;
+    let free = record.calling[t] == 0 && record.occupied[t] == 0 && record.unsure[t] == 0;
     let plain = record.waiting[t] == 0 && record.route[t] == 0;
     trains <= MAX_TRAINS && (t < entry.tracks.into() || free) && (entry.depends(t) || plain)
 }
@@ -59,6 +59,7 @@ fn flags_in_range(record: &Crossing) -> bool {
     let are = |flags: &[u8]| flags.iter().all(|flag| *flag <= 1);
     are(&record.route)
         && are(&record.occupied)
+        && are(&record.unsure)
         && are(&record.lamps)
         && are(&[record.kiosk, record.operator])
 }

@@ -14,6 +14,7 @@ pub mod number {
     pub const UNKNOWN_CROSSING: u8 = 6;
     pub const UNKNOWN_PLACE: u8 = 7;
     pub const UNKNOWN_VALUE: u8 = 8;
+    /// No call gives it any more: document 02, T-01.
     pub const FULL_TRACK: u8 = 9;
     pub const GHOST_PASSAGE: u8 = 10;
     pub const TRAIN_CALLING: u8 = 11;
@@ -113,6 +114,8 @@ pub struct Crossing {
     pub route: [u8; 4],
     /// Approach occupied, a flag per track.
     pub occupied: [u8; 4],
+    /// Unsure, a flag per track: a strike-in found it full (document 02, T-01).
+    pub unsure: [u8; 4],
     /// Last boom reports: 0 and 1 right of the road, 2 and 3 left.
     pub booms: [u8; 4],
     /// Lamp last reported whole, a flag each: road white, road red, train red, train white,
@@ -136,6 +139,7 @@ impl Crossing {
         waiting: [0; 4],
         route: [0; 4],
         occupied: [0; 4],
+        unsure: [0; 4],
         booms: [boom::UP; 4],
         lamps: [0; 5],
         kiosk: 0,

@@ -121,12 +121,23 @@ fn fresh_one_tick() {
     assert_eq!(panel(&plant, 0)[1], 13);
 }
 
+/// As document 02, T-01, has it; tests/swept.rs has the rest of that request.
 #[test]
 fn strike_in_255_and_256() {
-    for mask in 0..2 {
-        let mut plant = fresh(&[entry(3, 1, mask, 2, 0)]);
-        take(&mut plant, &[STRIKE_IN; 255]);
-        refuse(&plant, STRIKE_IN, 9);
+    for (kind, mask) in (1..=4).flat_map(|kind| [(kind, 0), (kind, 1)]) {
+        let gap = if kind == 4 { 1 } else { 0 };
+        let mut plant = fresh(&[entry(kind, 1, mask, 2, gap)]);
+        assert_eq!(take(&mut plant, &[STRIKE_IN; 255]), 0);
+        assert_eq!(take(&mut plant, &[STRIKE_IN]), 1);
+        let c = plant.crossings[0];
+        let (calling, waiting) = if mask == 0 { (255, 0) } else { (0, 255) };
+        assert_eq!((c.calling[0], c.waiting[0]), (calling, waiting));
+        assert_eq!((c.unsure, c.phase), ([1, 0, 0, 0], 1));
+        take(&mut plant, &[[7, 0, 0, 0]]);
+        assert_eq!(ticks(&mut plant, 269), 0);
+        assert_eq!(plant.crossings[0].unsure, [1, 0, 0, 0]);
+        assert_eq!(ticks(&mut plant, 1), 255);
+        assert_eq!(plant.crossings[0].unsure, [0; 4]);
     }
 }
 

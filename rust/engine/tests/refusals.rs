@@ -70,20 +70,15 @@ fn plain_track_after_place_and_value() {
     }
 }
 
+/// Document 02, T-01: number 9 is not given, the others as on any track.
 #[test]
-fn full_track_counts_calling_and_waiting() {
-    let mut plant = fresh(&[entry(2, 2, 0b11, 2, 0)]);
-    take(&mut plant, &[[5, 0, 0, 1]]);
-    take(&mut plant, &[[1, 0, 0, 0]; 200]);
-    take(&mut plant, &[[5, 0, 0, 0]]);
-    take(&mut plant, &[[1, 0, 0, 0]; 55]);
-    assert_eq!(plant.crossings[0].calling[0], 200);
-    assert_eq!(plant.crossings[0].waiting[0], 55);
-    refuse(&plant, [1, 0, 0, 0], 9);
-    refuse(&plant, [1, 0, 0, 1], 8);
-    take(&mut plant, &[[1, 0, 1, 0], [5, 0, 0, 1]]);
-    assert_eq!(plant.crossings[0].calling[0], 255);
-    refuse(&plant, [1, 0, 0, 0], 9);
+fn full_track() {
+    let mut plant = four_kinds();
+    take(&mut plant, &[[1, 3, 0, 0]; 255]);
+    for (e, number) in [([1, 3, 0, 1], 8), ([1, 3, 2, 0], 7), ([1, 4, 0, 0], 6)] {
+        refuse(&plant, e, number);
+    }
+    assert_eq!(take(&mut plant, &[[1, 3, 0, 0]; 3]), 3);
 }
 
 #[test]

@@ -55,6 +55,7 @@ fn tracks() {
     spoilt(&plant, |p| p.crossings[0].route[0] = 1);
     sound(&plant, |p| p.crossings[0].route[1] = 1);
     sound(&plant, |p| p.crossings[0].occupied = [1, 1, 0, 0]);
+    sound(&plant, |p| p.crossings[0].unsure = [1, 1, 0, 0]);
     spoilt(&plant, |p| {
         p.crossings[3].calling[1] = 128;
         p.crossings[3].waiting[1] = 128;
@@ -64,6 +65,7 @@ fn tracks() {
         spoilt(&plant, |p| p.crossings[1].waiting[track] = 1);
         spoilt(&plant, |p| p.crossings[1].route[track] = 1);
         spoilt(&plant, |p| p.crossings[1].occupied[track] = 1);
+        spoilt(&plant, |p| p.crossings[1].unsure[track] = 1);
     }
 }
 
@@ -86,8 +88,9 @@ fn flag(c: &mut Crossing, i: usize) -> &mut u8 {
     match i {
         0..=3 => &mut c.route[i],
         4..=7 => &mut c.occupied[i - 4],
-        8..=12 => &mut c.lamps[i - 8],
-        13 => &mut c.kiosk,
+        8..=11 => &mut c.unsure[i - 8],
+        12..=16 => &mut c.lamps[i - 12],
+        17 => &mut c.kiosk,
         _ => &mut c.operator,
     }
 }
@@ -95,7 +98,7 @@ fn flag(c: &mut Crossing, i: usize) -> &mut u8 {
 #[test]
 fn every_byte_as_every_flag() {
     let plant = fresh(&[entry(3, 4, 0b1111, 2, 0); 3]);
-    for (i, crossing) in (0..15).flat_map(|i| (0..8).map(move |c| (i, c))) {
+    for (i, crossing) in (0..19).flat_map(|i| (0..8).map(move |c| (i, c))) {
         for value in 0..=255 {
             let known = value == 0 || value == 1 && crossing < 3;
             match known {
@@ -141,11 +144,12 @@ fn counters() {
 #[test]
 fn past_n() {
     let plant = four_kinds();
-    let changes: [fn(&mut Crossing); 12] = [
+    let changes: [fn(&mut Crossing); 13] = [
         |c| c.calling[0] = 1,
         |c| c.waiting[0] = 1,
         |c| c.route[0] = 1,
         |c| c.occupied[3] = 1,
+        |c| c.unsure[3] = 1,
         |c| c.booms[0] = 1,
         |c| c.lamps[4] = 1,
         |c| c.kiosk = 1,

@@ -1,6 +1,7 @@
 //! Counters of what a set of inputs reached.
 
 use crate::flags::FlagBytes;
+use crate::unsure::UnsureCounts;
 use engine::{code, number, phase, Crossing, Plant, PANEL};
 
 /// The five calls.
@@ -25,6 +26,7 @@ pub struct Coverage {
     pub(crate) written_off: [u64; 3],
     pub(crate) panels: u64,
     pub(crate) flags: [FlagBytes; 5],
+    pub(crate) unsure: UnsureCounts,
 }
 
 /// How often a byte had each value.
@@ -96,10 +98,11 @@ impl Coverage {
             _ => usize::from(e[1])..usize::from(e[1]) + 1,
         };
         for i in changed {
-            let (from, to) = (before.crossings[i].phase, after.crossings[i].phase);
-            let kind = after.site.entries[i].kind;
-            self.phases[usize::from(kind)][usize::from(to)] += 1;
-            self.moves[usize::from(from)][usize::from(to)] += 1;
+            let (from, to) = (&before.crossings[i], &after.crossings[i]);
+            let entry = &after.site.entries[i];
+            self.phases[usize::from(entry.kind)][usize::from(to.phase)] += 1;
+            self.moves[usize::from(from.phase)][usize::from(to.phase)] += 1;
+            self.unsure.event(entry, e, from, to);
         }
     }
 
@@ -129,6 +132,7 @@ impl Coverage {
         bytes.chain(signals).for_each(|(a, b)| sums(&mut a.0, &b.0));
         let flags = self.flags.iter_mut().zip(&other.flags);
         flags.for_each(|(a, b)| a.add(b));
+        self.unsure.add(&other.unsure);
         self.panels += other.panels;
     }
 }

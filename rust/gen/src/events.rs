@@ -7,6 +7,11 @@ use engine::{code, Plant};
 pub fn event(rng: &mut Rng, plant: &Plant) -> [u8; 4] {
     let n = u32::from(plant.site.n.clamp(1, 8));
     let crossing = rng.below(n) as u8;
+    event_at(rng, plant, crossing)
+}
+
+/// An event of the table at this crossing, or a tick.
+pub(crate) fn event_at(rng: &mut Rng, plant: &Plant, crossing: u8) -> [u8; 4] {
     let entry = &plant.site.entries[usize::from(crossing)];
     let track = rng.below(entry.tracks.into()) as u8;
     let on = rng.below(2) as u8;

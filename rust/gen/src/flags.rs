@@ -4,18 +4,20 @@ use crate::plants::crossing;
 use crate::rng::Rng;
 use engine::{Crossing, Entry, Plant, Site};
 
-/// Flags of one crossing: four routes, four approaches, five lamps, kiosk and operator hold.
-pub const FLAGS: usize = 15;
+/// Flags of one crossing: four routes, four approaches, four unsure tracks, five lamps, kiosk
+/// and operator hold.
+pub const FLAGS: usize = 19;
 
 /// The flags of a record in turn.
 pub fn flags(c: &Crossing) -> impl Iterator<Item = &u8> {
-    let tracks = c.route.iter().chain(&c.occupied);
+    let tracks = c.route.iter().chain(&c.occupied).chain(&c.unsure);
     tracks.chain(&c.lamps).chain([&c.kiosk, &c.operator])
 }
 
 fn set_flag(c: &mut Crossing, flag: usize, value: u8) {
     let tracks = c.route.iter_mut().chain(&mut c.occupied);
     let mut all = tracks
+        .chain(&mut c.unsure)
         .chain(&mut c.lamps)
         .chain([&mut c.kiosk, &mut c.operator]);
     if let Some(byte) = all.nth(flag) {

@@ -2,6 +2,7 @@
 
 use crate::coverage::{Call, Coverage};
 use crate::flags::FlagBytes;
+use crate::unsure::Met;
 use engine::{code, number, PANEL};
 use std::fmt::Write;
 
@@ -10,7 +11,7 @@ const CALLS: [&str; 5] = ["read book", "write book", "event", "draw", "run"];
 const CALL_NUMBERS: [&[u8]; 5] = [
     &[0, 1, 2, 3],
     &[0, 2, 3, 14],
-    &[0, 5, 6, 7, 8, 9, 10, 11, 12, 13, 15],
+    &[0, 5, 6, 7, 8, 10, 11, 12, 13, 15],
     &[0, 14, 15],
     &[0, 2, 4, 14, 15],
 ];
@@ -40,7 +41,6 @@ const WITH_PLANT: [Call; 3] = [Call::Event, Call::Draw, Call::Run];
 /// The refusals an event of this code can meet, beside 6, 7 and 8; 10 stands for the rest.
 fn own_refusals(code: usize) -> &'static [u8] {
     match code as u8 {
-        code::STRIKE_IN => &[number::FULL_TRACK],
         code::PASSAGE => &[number::GHOST_PASSAGE],
         code::OPERATOR_HOLD => &[number::TRAIN_CALLING],
         code::ROUTE => &[number::PLAIN_TRACK],
@@ -102,6 +102,7 @@ impl Coverage {
     fn goals(&self) -> Vec<Goal> {
         let mut goals = self.number_goals();
         goals.extend(self.phase_goals());
+        goals.extend(self.unsure_goals());
         goals.extend(self.rhythm_goals());
         goals.extend(self.bit_goals());
         goals.extend(self.flag_goals());
@@ -111,7 +112,7 @@ impl Coverage {
     fn number_goals(&self) -> Vec<Goal> {
         let mut goals = Vec::new();
         let mut goal = |group, name, count| goals.push(Goal::once(group, name, count));
-        for n in 0..16 {
+        for n in (0..16).filter(|n| *n != usize::from(number::FULL_TRACK)) {
             let count = self.calls.iter().map(|c| c[n]).sum();
             goal("number", format!("{n}"), count);
         }
@@ -145,6 +146,29 @@ impl Coverage {
         }
         for (i, name) in ["0", "1", "more"].into_iter().enumerate() {
             goal("written off by a tick", name.into(), self.written_off[i]);
+        }
+        goals
+    }
+
+    /// Full and unsure tracks at every kind.
+    fn unsure_goals(&self) -> Vec<Goal> {
+        let mut goals = Vec::new();
+        let mut goal = |group, name, count| goals.push(Goal::once(group, name, count));
+        for kind in 1..=4 {
+            for p in kind_phases(kind) {
+                let count = self.unsure.phase(kind, *p);
+                goal("swept, kind:phase", format!("{kind}:{p}"), count);
+            }
+        }
+        for (met, group, name) in Met::ALL {
+            let first = match met {
+                // Kind 1 has no boom.
+                Met::BoomReport => 2,
+                _ => 1,
+            };
+            for kind in first..=4 {
+                goal(group, format!("{kind}:{name}"), self.unsure.met(met, kind));
+            }
         }
         goals
     }

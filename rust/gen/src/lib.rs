@@ -11,7 +11,9 @@ mod plants;
 mod rng;
 mod sheets;
 mod spoilt;
+mod swept;
 mod traffic;
+mod unsure;
 
 pub use books::{
     all_lengths, book, book_bytes, damaged_book, entry, frame, quick_site, site, BookDamage,
@@ -23,4 +25,5 @@ pub use plants::plant;
 pub use rng::Rng;
 pub use sheets::{damaged_sheet, sheet_bytes, sheet_events, SheetDamage};
 pub use spoilt::{spoilt_plant, Spoil};
+pub use swept::{swept_event, swept_grid, swept_plant};
 pub use traffic::{coherent, mixed};

@@ -40,9 +40,11 @@ fn count(rng: &mut Rng, special: &[u16], max: u32) -> u16 {
 /// A crossing record in range for these settings.
 pub(crate) fn crossing(rng: &mut Rng, entry: &Entry) -> Crossing {
     let mut c = Crossing::FRESH;
+    let swept = rng.once_in(4);
     for t in 0..usize::from(entry.tracks) {
         c.calling[t] = trains(rng);
         c.occupied[t] = rng.once_in(5).into();
+        c.unsure[t] = (swept && rng.flag()).into();
         if entry.depends(t) {
             c.waiting[t] = trains(rng).min(255 - c.calling[t]);
             c.route[t] = rng.once_in(3).into();

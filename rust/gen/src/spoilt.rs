@@ -21,12 +21,12 @@ spoils! {
     CountZero CountOver Kind Tracks Mask Pre Gap GapWithoutBooms
     EntryPastKind EntryPastTracks EntryPastMask EntryPastPre EntryPastGap
     Beat TooManyTrains WaitingOnPlain RouteOnPlain
-    CallingOffTrack WaitingOffTrack RouteOffTrack OccupiedOffTrack
-    Route Occupied Lamp Kiosk Operator
+    CallingOffTrack WaitingOffTrack RouteOffTrack OccupiedOffTrack UnsureOffTrack
+    Route Occupied Unsure Lamp Kiosk Operator
     BoomReport LackingBoom Countdown Out
     PhaseOver RightDownWithoutLeft RaisingLights
     WarningTimerZero WarningTimerOver GapTimerZero GapTimerOver StillTimer
-    PastCalling PastWaiting PastRoute PastOccupied PastBooms PastLamps
+    PastCalling PastWaiting PastRoute PastOccupied PastUnsure PastBooms PastLamps
     PastKiosk PastOperator PastCountdown PastPhase PastTimer PastOut
 }
 
@@ -90,6 +90,7 @@ fn suited(rng: &mut Rng, spoil: Spoil) -> Entry {
     match spoil {
         Spoil::CallingOffTrack | Spoil::WaitingOffTrack => e.tracks = e.tracks.min(3),
         Spoil::RouteOffTrack | Spoil::OccupiedOffTrack => e.tracks = e.tracks.min(3),
+        Spoil::UnsureOffTrack => e.tracks = e.tracks.min(3),
         Spoil::TooManyTrains | Spoil::Route => e.mask |= 1,
         _ => {}
     }
@@ -149,6 +150,8 @@ fn spoil_tracks(rng: &mut Rng, e: &Entry, c: &mut Crossing, spoil: Spoil) {
         Spoil::WaitingOffTrack => c.waiting[off] = rng.pick(&[1, 255]),
         Spoil::RouteOffTrack => c.route[off] = byte(rng, 1),
         Spoil::OccupiedOffTrack => c.occupied[off] = byte(rng, 1),
+        Spoil::UnsureOffTrack if rng.flag() => c.unsure[off] = 1,
+        Spoil::UnsureOffTrack => c.unsure[off] = byte(rng, 1),
         Spoil::BoomReport => {
             let b = rng.below(e.booms().into()) as usize;
             c.booms[b] = rng.pick(&[3, 4, 255]);
@@ -166,6 +169,7 @@ fn spoil_flags(rng: &mut Rng, e: &Entry, c: &mut Crossing, spoil: Spoil) {
     match spoil {
         Spoil::Route => c.route[0] = byte(rng, 2),
         Spoil::Occupied => c.occupied[track] = byte(rng, 2),
+        Spoil::Unsure => c.unsure[track] = byte(rng, 2),
         Spoil::Lamp => c.lamps[rng.below(5) as usize] = byte(rng, 2),
         Spoil::Kiosk => c.kiosk = byte(rng, 2),
         Spoil::Operator => c.operator = byte(rng, 2),
@@ -198,6 +202,7 @@ fn spoil_past(rng: &mut Rng, c: &mut Crossing, spoil: Spoil) {
         Spoil::PastWaiting => c.waiting[i] = 1,
         Spoil::PastRoute => c.route[i] = byte(rng, 1),
         Spoil::PastOccupied => c.occupied[i] = byte(rng, 1),
+        Spoil::PastUnsure => c.unsure[i] = byte(rng, 1),
         Spoil::PastBooms => c.booms[i] = rng.pick(&[1, 2, 255]),
         Spoil::PastLamps if rng.flag() => c.lamps = [1; 5],
         Spoil::PastLamps => c.lamps[rng.below(5) as usize] = byte(rng, 1),

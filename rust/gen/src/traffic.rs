@@ -1,8 +1,9 @@
 //! Lists of events: coherent traffic, in which booms follow their orders, time
-//! releases run to their end and tracks fill up, mixed with junk.
+//! releases run to their end and detectors sweep their counters, mixed with junk.
 
 use crate::events::{event, junk_event};
 use crate::rng::Rng;
+use crate::swept::{fullest, trains};
 use engine::events::apply;
 use engine::{boom, code, phase, Plant};
 
@@ -69,7 +70,7 @@ impl<'a> List<'a> {
         match self.rng.below(16) {
             0 => self.release(),
             1 => self.late_warning(),
-            2 => self.fill(),
+            2 => self.sweep(),
             3 => self.long_out(),
             4..=6 => self.stretch(&LINE),
             7..=10 => self.stretch(&STATION),
@@ -238,21 +239,95 @@ impl<'a> List<'a> {
         self.ticks(pre + 2);
     }
 
-    /// Fills one track to its last place, and past it.
-    fn fill(&mut self) {
+    /// A detector sweeps its counter, sometimes two do; then what may follow, and mostly a
+    /// release.
+    fn sweep(&mut self) {
         let c = self.crossing();
-        let t = self.track(c);
-        let turn = self.rng.below(256);
-        for i in 0..257 {
+        let t = match self.rng.flag() {
+            true => fullest(&self.plant, c),
+            false => self.track(c),
+        };
+        self.strike_in_past_full(c, t);
+        if self.rng.once_in(3) {
+            let other = (t + 1) % self.plant.site.entries[usize::from(c)].tracks;
+            self.strike_in_past_full(c, other);
+        }
+        for _ in 0..self.rng.below(3) {
+            self.after_sweep(c, t);
+        }
+        if !self.rng.once_in(3) {
+            self.release_sweep(c, t);
+        }
+    }
+
+    /// Strike-ins until the track is full and some more; its route may change between them.
+    fn strike_in_past_full(&mut self, c: u8, t: u8) {
+        let there = trains(&self.plant.crossings[usize::from(c)], t.into());
+        let count = 255 - u32::from(there) + self.rng.within(1..=4);
+        let turn = self.rng.below(2 * count);
+        for i in 0..count {
             if i == turn {
                 let on = self.rng.below(2) as u8;
                 self.push([code::ROUTE, c, t, on]);
             }
             self.push([code::STRIKE_IN, c, t, 0]);
         }
-        for _ in 0..self.rng.below(600) {
-            self.push([code::PASSAGE, c, t, 0]);
+    }
+
+    /// What leaves a swept track unsure.
+    fn after_sweep(&mut self, c: u8, t: u8) {
+        match self.rng.below(5) {
+            0 => {
+                for _ in 0..self.rng.pick(&[1, 5, 256]) {
+                    self.push([code::PASSAGE, c, t, 0]);
+                }
+            }
+            1 => {
+                self.push([code::ROUTE, c, t, 1]);
+                self.push([code::ROUTE, c, t, 0]);
+            }
+            2 => {
+                self.push([code::KIOSK_HOLD, c, 0, 1]);
+                self.push([code::KIOSK_HOLD, c, 0, 0]);
+            }
+            3 => {
+                self.push([code::OPERATOR_HOLD, c, 0, 1]);
+                self.clear(c);
+            }
+            _ => {
+                let ticks = self.rng.within(1..=20);
+                self.ticks(ticks);
+                let report = self.rng.below(3) as u8;
+                self.all_booms(c, report);
+                self.push([code::STRIKE_IN, c, t, 0]);
+            }
         }
+    }
+
+    /// A time release at a swept crossing, sometimes cancelled, and then begun again or not.
+    fn release_sweep(&mut self, c: u8, t: u8) {
+        self.clear(c);
+        self.push([code::TIME_RELEASE, c, 0, 0]);
+        if self.rng.flag() {
+            let ticks = self.rng.below(270);
+            self.ticks(ticks);
+            let cancel = self.rng.pick(&[
+                [code::STRIKE_IN, c, t, 0],
+                [code::STRIKE_IN, c, t, 0],
+                [code::STRIKE_IN, c, t, 0],
+                [code::KIOSK_HOLD, c, 0, 1],
+                [code::OPERATOR_HOLD, c, 0, 1],
+                [code::ROUTE, c, t, 1],
+                [code::APPROACH, c, t, 1],
+            ]);
+            self.push(cancel);
+            if self.rng.once_in(3) {
+                return;
+            }
+            self.clear(c);
+            self.push([code::TIME_RELEASE, c, 0, 0]);
+        }
+        self.ticks(271);
     }
 
     /// More than 900 ticks out of normal position.

@@ -1,10 +1,10 @@
 //! The generators give what their names say, and the same on every machine.
 
-use engine::{book_len, draw, event, in_range, panel_len, read_book, run};
+use engine::{book_len, draw, event, in_range, number, panel_len, read_book, run};
 use gen::{
     book, book_bytes, coherent, damaged_book, damaged_sheet, every_flag, junk_event, mixed, plant,
-    quick_site, sheet_bytes, sheet_events, site, spoilt_plant, BookDamage, Call, Coverage, Rng,
-    SheetDamage, Spoil,
+    quick_site, sheet_bytes, sheet_events, site, spoilt_plant, swept_event, swept_grid,
+    swept_plant, BookDamage, Call, Coverage, Rng, SheetDamage, Spoil,
 };
 
 #[test]
@@ -34,10 +34,13 @@ fn the_same_on_every_machine() {
         let events = coherent(&mut rng, &start, 200);
         hash = fold(hash, &sheet_bytes(&events));
         hash = fold(hash, &mixed(&mut rng, &start, 50).concat());
+        let (swept, crossing) = swept_plant(&mut rng);
+        hash = fold(hash, &swept_event(&mut rng, &swept, crossing));
+        hash = fold(hash, &coherent(&mut rng, &swept, 600).concat());
     }
     assert_eq!(hash, SAME);
 }
-const SAME: u64 = 10629751045016529666;
+const SAME: u64 = 9204679804192416205;
 
 #[test]
 fn good_books_are_taken() {
@@ -80,7 +83,25 @@ fn plants_are_in_range() {
     let mut rng = Rng::new(3);
     for _ in 0..5000 {
         assert!(in_range(&plant(&mut rng)));
+        assert!(in_range(&swept_plant(&mut rng).0));
     }
+    let grid = swept_grid();
+    assert_eq!(grid.len(), 28_800);
+    assert!(grid.iter().all(|(plant, _)| in_range(plant)));
+}
+
+/// Plants alone, without a list before them, meet every kind of swept strike-in and release.
+#[test]
+fn the_swept_grid_meets_everything() {
+    let mut seen = Coverage::new();
+    for (before, e) in swept_grid() {
+        let mut plant = before;
+        let answer = event(&mut plant, e);
+        seen.event(&before, e, answer, &plant);
+    }
+    let left = seen.missing().into_iter();
+    let mut left = left.filter(|s| s.starts_with("swept") || s.starts_with("unsure"));
+    assert_eq!(left.next(), None);
 }
 
 #[test]
@@ -110,7 +131,7 @@ fn every_flag_has_every_byte() {
     };
     assert!(lacks(&mut every_flag()).is_empty());
     let mut but_one = every_flag().filter(|plant| plant.crossings[3].kiosk != 77);
-    let [unused, used] = ["unused 26879 of 26880", "used 30719 of 30720"];
+    let [unused, used] = ["unused 34047 of 34048", "used 38911 of 38912"];
     let both = [unused, used].map(|goal| format!("flag bytes event {goal}"));
     assert_eq!(lacks(&mut but_one), both);
 }
@@ -148,6 +169,7 @@ fn traffic_reaches_its_states() {
         for e in events {
             let before = plant;
             let answer = event(&mut plant, e);
+            assert_ne!(answer.0, number::FULL_TRACK);
             seen.event(&before, e, answer, &plant);
             assert_eq!(draw(&plant, &mut panel), 0);
             seen.panel(&plant, &panel);
@@ -157,5 +179,6 @@ fn traffic_reaches_its_states() {
     let of_events = |s: &&String| s.starts_with("kind") || s.starts_with("phase");
     assert!(!left.iter().any(|s| of_events(&s)), "{left:?}");
     assert!(!left.iter().any(|s| s.starts_with("written")), "{left:?}");
+    assert!(!left.iter().any(|s| s.starts_with("unsure")), "{left:?}");
     assert!(!left.iter().any(|s| s.starts_with("road")), "{left:?}");
 }

@@ -21,8 +21,8 @@ pub struct Site {
     pub entries: [Entry; 8],
 }
 
-/// What the plant holds for one crossing. Each byte of route, occupied, lamps, kiosk and
-/// operator is a flag, 0 or 1; any other is out of range, number 15.
+/// What the plant holds for one crossing. Each byte of route, occupied, unsure, lamps, kiosk
+/// and operator is a flag, 0 or 1; any other is out of range, number 15.
 #[repr(C)]
 #[derive(Clone, Copy, PartialEq, Debug)]
 pub struct Crossing {
@@ -30,6 +30,7 @@ pub struct Crossing {
     pub waiting: [u8; 4],
     pub route: [u8; 4],
     pub occupied: [u8; 4],
+    pub unsure: [u8; 4],
     pub booms: [u8; 4],
     pub lamps: [u8; 5],
     pub kiosk: u8,

@@ -24,9 +24,12 @@ mul-c c = search needs
 element-copy-out-c : tie.Need-element-copy-out-c
 element-copy-out-c c = let a = c .before .before .before in own-below _ _ (a .pre .0) (ne-eqb _ _ (a .pre .1))
 
+written-off-requires : tie.Need-written-off-requires
+written-off-requires c κs = search needs
+
 apply-requires : tie.Need-apply-requires
 apply-requires c κs =
-    let a = c .before .before .before .before in
+    let a = c .before .before .before .before .before in
     let p = a .args .t1 in
     let e = a .args .e in
     let z = ne-eqb (e .code) 0 (a .pre .1) in
@@ -38,17 +41,17 @@ mul-d : tie.Need-mul-d
 mul-d c = search needs
 
 element-set-from-d : tie.Need-element-set-from-d
-element-set-from-d c = let a = c .before .before .before .before .before in own-below _ _ (a .pre .0) (ne-eqb _ _ (a .pre .1))
+element-set-from-d c = let a = c .before .before .before .before .before .before in own-below _ _ (a .pre .0) (ne-eqb _ _ (a .pre .1))
 
 returns : tie.Need-returns
 returns c =
-    let a = c .before .before .before .before .before in
+    let a = c .before .before .before .before .before .before in
     let p = a .args .t1 in
     let e = a .args .e in
     let z = ne-eqb (e .code) 0 (a .pre .1) in
     let len = eight-crossings p _ (a .good .0) in
     let l : e .crossing < length (p .crossings) = omega (arith, own-below p e (a .pre .0) z) in
-    simp (c .apply .ensures, crossing-read (p .crossings) (e .crossing) l) (sym (own-step p e len (a .pre .0) z))
+    simp (c .apply .ensures, c .before .written-off .ensures .0, crossing-read (p .crossings) (e .crossing) l) (sym (own-step p e len (a .pre .0) z))
 
 pub take-own-spec : {M : Type 1} → statement M
 take-own-spec =
@@ -59,6 +62,7 @@ take-own-spec =
     element-copy-out-s
     mul-c
     element-copy-out-c
+    written-off-requires
     apply-requires
     mul-d
     element-set-from-d

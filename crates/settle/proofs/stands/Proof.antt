@@ -6,9 +6,12 @@ use Rattle.settle.proofs.stands.Tie as tie
 any-calling-requires : tie.Need-any-calling-requires
 any-calling-requires c κs = search needs
 
+any-unsure-requires : tie.Need-any-unsure-requires
+any-unsure-requires c κs = search needs
+
 returns : tie.Need-returns
 unfolding reason
-returns c = simp (c .any-calling .ensures)
+returns c = simp (c .any-unsure .ensures, c .before .any-calling .ensures)
 
 pub stands-spec : {M : Type 1} → statement M
-stands-spec = tie.close (tie.spec any-calling-requires returns)
+stands-spec = tie.close (tie.spec any-calling-requires any-unsure-requires returns)

@@ -121,30 +121,11 @@ loop-again-2 c =
     let w = c .before .before .tick-all .ensures in
     (omega arith, rw (add-one (l .k), w .0) (played-tick p f (l .k) q (l .taken) (l .refused) (l .written) (l .inv .1) _ v (t .0) z (rw (w .0) at (w .1))))
 
+written-off-requires : tie.Need-written-off-requires Inv-loop μ-loop
+written-off-requires c κs = search needs
+
 apply-requires : tie.Need-apply-requires Inv-loop μ-loop
 apply-requires c κs =
-    let j = c .before .before .before .before .before in
-    let l = j .before .before .before .before .before .before .loop in
-    let a = j .before .before .before .before .before .before .before .before .before .before in
-    let p = a .args .p in
-    let f = sheet-event (a .args .sheet .now) in
-    let q : Plant = record { site = p .site; beat = l .beat; crossings = l .crossings } in
-    let v : j .judge .result ≡ verdict (refusal (p .site .n) (getD (p .site .entries) (f (l .k) .crossing % 8) no-entry) (getD (l .crossings) (f (l .k) .crossing % 8) unread) (f (l .k))) (f (l .k)) = rw (j .before .before .before .before .event-at .ensures) at (j .judge .ensures .0) in
-    let t = taken p f (l .k) q (l .taken) (l .refused) (l .written) (l .inv .1) _ v _ (c .before .before .before .v .given .1) in
-    let z : is 0 (f (l .k)) ≡ false = rw (t .1) (ne-eqb _ _ (c .if1 .left)) in
-    rw (j .before .before .before .before .event-at .ensures, ← t .1) (own-room-at p f (l .k) q (l .taken) (l .refused) (l .written) (l .inv .1) _ v (t .0) z)
-
-mul-crossings : tie.Need-mul-crossings Inv-loop μ-loop
-mul-crossings c = search needs
-
-array-set-from-crossings : tie.Need-array-set-from-crossings Inv-loop μ-loop
-array-set-from-crossings c = search needs
-
-loop-less-3 : tie.Need-loop-less-3 Inv-loop μ-loop
-loop-less-3 c = search needs
-
-loop-again-3 : tie.Need-loop-again-3 Inv-loop μ-loop
-loop-again-3 c =
     let j = c .before .before .before .before .before .before in
     let l = j .before .before .before .before .before .before .loop in
     let a = j .before .before .before .before .before .before .before .before .before .before in
@@ -154,8 +135,39 @@ loop-again-3 c =
     let v : j .judge .result ≡ verdict (refusal (p .site .n) (getD (p .site .entries) (f (l .k) .crossing % 8) no-entry) (getD (l .crossings) (f (l .k) .crossing % 8) unread) (f (l .k))) (f (l .k)) = rw (j .before .before .before .before .event-at .ensures) at (j .judge .ensures .0) in
     let t = taken p f (l .k) q (l .taken) (l .refused) (l .written) (l .inv .1) _ v _ (c .before .before .before .before .v .given .1) in
     let z : is 0 (f (l .k)) ≡ false = rw (t .1) (ne-eqb _ _ (c .before .if1 .left)) in
+    rw (j .before .before .before .before .event-at .ensures, ← t .1) (own-room-at p f (l .k) q (l .taken) (l .refused) (l .written) (l .inv .1) _ v (t .0) z)
+
+mul-crossings : tie.Need-mul-crossings Inv-loop μ-loop
+mul-crossings c = search needs
+
+array-set-from-crossings : tie.Need-array-set-from-crossings Inv-loop μ-loop
+array-set-from-crossings c = search needs
+
+add-written-2 : tie.Need-add-written-2 Inv-loop μ-loop
+add-written-2 c =
+    let j = c .before .before .before .before .before .before .before in
+    let n = j .before .before .before .before .before .before .loop .inv .1 .bound in
+    let m = j .before .before .before .before .before .before .before .before .before .before .pre .1 .1 in
+    let b = j .before .before .before .before .before .loop-test .taken in
+    let w = c .before .written-off .ensures .1 in
+    omega arith
+
+loop-less-3 : tie.Need-loop-less-3 Inv-loop μ-loop
+loop-less-3 c = search needs
+
+loop-again-3 : tie.Need-loop-again-3 Inv-loop μ-loop
+loop-again-3 c =
+    let j = c .before .before .before .before .before .before .before in
+    let l = j .before .before .before .before .before .before .loop in
+    let a = j .before .before .before .before .before .before .before .before .before .before in
+    let p = a .args .p in
+    let f = sheet-event (a .args .sheet .now) in
+    let q : Plant = record { site = p .site; beat = l .beat; crossings = l .crossings } in
+    let v : j .judge .result ≡ verdict (refusal (p .site .n) (getD (p .site .entries) (f (l .k) .crossing % 8) no-entry) (getD (l .crossings) (f (l .k) .crossing % 8) unread) (f (l .k))) (f (l .k)) = rw (j .before .before .before .before .event-at .ensures) at (j .judge .ensures .0) in
+    let t = taken p f (l .k) q (l .taken) (l .refused) (l .written) (l .inv .1) _ v _ (c .before .before .before .before .before .v .given .1) in
+    let z : is 0 (f (l .k)) ≡ false = rw (t .1) (ne-eqb _ _ (c .before .before .if1 .left)) in
     let o = own-place p f (l .k) q (l .taken) (l .refused) (l .written) (l .inv .1) _ v (t .0) z in
-    (omega arith, rw (add-one (l .k), c .apply .ensures, j .before .before .before .before .event-at .ensures, ← t .1, o .1, o .0) (played-own p f (l .k) q (l .taken) (l .refused) (l .written) (l .inv .1) _ v (t .0) z))
+    (omega arith, rw (add-one (l .k), c .apply .ensures, c .before .written-off .ensures .0, j .before .before .before .before .event-at .ensures, ← t .1, o .1, o .0) (played-own p f (l .k) q (l .taken) (l .refused) (l .written) (l .inv .1) _ v (t .0) z))
 
 ended-requires : tie.Need-ended-requires Inv-loop μ-loop
 ended-requires c κs = search needs
@@ -192,9 +204,11 @@ play-spec =
     add-written
     loop-less-2
     loop-again-2
+    written-off-requires
     apply-requires
     mul-crossings
     array-set-from-crossings
+    add-written-2
     loop-less-3
     loop-again-3
     ended-requires

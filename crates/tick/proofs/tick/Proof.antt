@@ -16,7 +16,7 @@ returns c =
     let z = and-both (eqb (x .countdown) 0) (eqb (x .timer) 0) (c .before .if1 .taken) in
     let d = eqb-true (x .countdown) 0 (z .0) in
     let t = eqb-true (x .timer) 0 (z .1) in
-    let l : Tracks x = record { calling = search (a .good, needs); waiting = search (a .good, needs) } in
+    let l : Tracks x = record { calling = search (a .good .1 .0, needs); waiting = search (a .good .1 .0, needs); unsure = search (a .good .1 .0 .1, needs) } in
     (simp (c .settle .ensures, still-ticks (a .args .s) x d t l, d), search needs)
 
 written-requires : tie.Need-written-requires

@@ -6,14 +6,8 @@ use Rattle.track.proofs.track_in.Tie as tie
 cast-tracks : tie.Need-cast-tracks
 cast-tracks c = search needs
 
-element-copy-out-together : tie.Need-element-copy-out-together
-element-copy-out-together c = search needs
-
-element-copy-out-together-2 : tie.Need-element-copy-out-together-2
-element-copy-out-together-2 c = search needs
-
-together-requires : tie.Need-together-requires
-together-requires c κs = search needs
+trains-requires : tie.Need-trains-requires
+trains-requires c κs = search needs
 
 cast-result : tie.Need-cast-result
 cast-result c = search needs
@@ -24,35 +18,37 @@ element-copy-out-result c = search needs
 element-copy-out-result-2 : tie.Need-element-copy-out-result-2
 element-copy-out-result-2 c = search needs
 
-dependent-requires : tie.Need-dependent-requires
-dependent-requires c κs = search needs
-
 element-copy-out-result-3 : tie.Need-element-copy-out-result-3
 element-copy-out-result-3 c = search needs
 
+dependent-requires : tie.Need-dependent-requires
+dependent-requires c κs = search needs
+
 element-copy-out-result-4 : tie.Need-element-copy-out-result-4
 element-copy-out-result-4 c = search needs
+
+element-copy-out-result-5 : tie.Need-element-copy-out-result-5
+element-copy-out-result-5 c = search needs
 
 track-zero-requires : tie.Need-track-zero-requires
 track-zero-requires c κs = search needs
 
 returns : tie.Need-returns
 unfolding track-in
-returns c = simp (c .track-zero .ensures, c .before .before .before .dependent .ensures, c .before .before .before .before .before .before .together .ensures)
+returns c = simp (c .track-zero .ensures, c .before .before .before .dependent .ensures, c .before .before .before .before .before .before .before .trains .ensures)
 
 pub track-in-spec : {M : Type 1} → statement M
 track-in-spec =
     tie.close
     (tie.spec
     cast-tracks
-    element-copy-out-together
-    element-copy-out-together-2
-    together-requires
+    trains-requires
     cast-result
     element-copy-out-result
     element-copy-out-result-2
-    dependent-requires
     element-copy-out-result-3
+    dependent-requires
     element-copy-out-result-4
+    element-copy-out-result-5
     track-zero-requires
     returns)

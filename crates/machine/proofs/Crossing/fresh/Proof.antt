@@ -11,11 +11,11 @@ as-bit : (b : Bool) → boolByte b ≡ bit b 1
 as-bit true = refl
 as-bit false = refl
 
-cast-t7 : tie.Need-cast-t7
-cast-t7 c = search needs
+cast-t8 : tie.Need-cast-t8
+cast-t8 c = search needs
 
 returns : tie.Need-returns
 returns c = simp as-bit
 
 pub fresh-spec : {M : Type 1} → statement M
-fresh-spec = tie.close (tie.spec cast-t7 returns)
+fresh-spec = tie.close (tie.spec cast-t8 returns)

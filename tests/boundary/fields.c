@@ -1,0 +1,120 @@
+/* Every field of a crossing, by an event that moves it: the header's fields are the library's, also where two have the same
+ * range. The plant after each event is worked out by hand from document 01, amended by request T-01 of document 02. */
+#include "boundary.h"
+#include <stdio.h>
+#include <string.h>
+
+/* Crossing 0: lights only, a plain track, F 1. Crossing 1, the one that is played: four full booms, four tracks, 1 and 3 of
+ * them dependent, F 3, G 2. */
+static const uint8_t book[] = {2, 1, 1, 0, 4, 4, 10, 1, 0, 0, 0, 3, 0, 2, 0};
+
+static wilzhoram_plant plant, wanted;
+static wilzhoram_crossing *const held = &plant.crossings[1], *const want = &wanted.crossings[1];
+static unsigned events;
+
+static void begin(void) {
+    wilzhoram_reading reading = wilzhoram_read(book, sizeof book);
+    wanted.site = (wilzhoram_site){2, {{1, 1, 0, 1, 0}, {4, 4, 10, 3, 2}}};
+    memset(wanted.crossings[0].lamps, 1, 5);
+    memset(want->lamps, 1, 5);
+    if (reading.number != 0 || !same_plant(&reading.plant, &wanted))
+        fail("fields: number %u or another plant from the book", reading.number);
+    plant = reading.plant;
+}
+
+/* A taken event at crossing 1 (a tick: of the plant): the plant after it is the one wanted. */
+static void play(unsigned code, unsigned place, unsigned value, uint32_t written) {
+    wilzhoram_event_bytes event = {(uint8_t)code, code != 0, (uint8_t)place, (uint8_t)value};
+    wilzhoram_answer answer = wilzhoram_event(plant, event);
+    events++;
+    if (answer.number != 0 || answer.written != written || !same_plant(&answer.plant, &wanted))
+        fail("fields: event %u, code %u, place %u, value %u: number %u, written off %u, or another plant", events, code,
+             place, value, answer.number, (unsigned)answer.written);
+    plant = answer.plant;
+}
+
+/* Reports and approaches: no reason, and no tick that counts. */
+static void reports(void) {
+    for (int value = 2; value >= 0; value--)
+        for (unsigned b = 0; b < 4; b++) {
+            want->booms[b] = (uint8_t)value;
+            play(8, b, (unsigned)value, 0);
+        }
+    for (int value = 0; value <= 1; value++)
+        for (unsigned l = 0; l < 5; l++) {
+            want->lamps[l] = (uint8_t)value;
+            play(9, l, (unsigned)value, 0);
+        }
+    for (int value = 1; value >= 0; value--)
+        for (unsigned t = 0; t < 4; t++) {
+            want->occupied[t] = (uint8_t)value;
+            play(6, t, (unsigned)value, 0);
+        }
+}
+
+/* One train waits, one calls; holds; the route; at the end no reason, phase 0. */
+static void traffic(void) {
+    want->waiting[3] = 1;
+    play(1, 3, 0, 0);
+    want->calling[0] = 1;
+    want->phase = 1;
+    want->timer = 3;
+    play(1, 0, 0, 0);
+    wanted.beat = 1;
+    want->timer = 2;
+    want->out = 1;
+    play(0, 0, 0, 0);
+    want->kiosk = 1;
+    play(3, 0, 1, 0);
+    want->operator_hold = 1;
+    play(4, 0, 1, 0);
+    want->kiosk = 0;
+    play(3, 0, 0, 0);
+    want->calling[0] = 0;
+    play(2, 0, 0, 0);
+    want->operator_hold = 0;
+    want->phase = 0;
+    want->timer = want->out = 0;
+    play(4, 0, 0, 0);
+    want->route[1] = 1;
+    play(5, 1, 1, 0);
+    want->route[1] = 0;
+    play(5, 1, 0, 0);
+    want->countdown = 270;
+    play(7, 0, 0, 0);
+}
+
+/* T-01: each track full, calling where it is plain, otherwise waiting, and a strike-in there; a passage; and a release that
+ * the next tick completes. */
+static void swept(void) {
+    want->phase = 1;
+    want->timer = 3;
+    want->countdown = 0;
+    for (unsigned t = 0; t < 4; t++) {
+        (t % 2 == 0 ? held->calling : held->waiting)[t] = 255;
+        (t % 2 == 0 ? want->calling : want->waiting)[t] = 255;
+        want->unsure[t] = 1;
+        play(1, t, 0, 1);
+    }
+    want->calling[0] = 254;
+    play(2, 0, 0, 0);
+    want->countdown = 270;
+    play(7, 0, 0, 0);
+    held->countdown = 1;
+    wanted.beat = 2;
+    want->countdown = want->timer = 0;
+    want->phase = 0;
+    memset(want->calling, 0, 4);
+    memset(want->waiting, 0, 4);
+    memset(want->unsure, 0, 4);
+    play(0, 0, 0, 254 + 3 * 255);
+}
+
+int main(void) {
+    begin();
+    reports();
+    traffic();
+    swept();
+    printf("boundary: %u events, each in the fields that the header has for it\n", events);
+    return 0;
+}
