@@ -5,13 +5,17 @@ use Prim.Native.Nat.{ℕ, zero, suc, _≤_, _<_}
 use native.Mathlib.Omega.{arith}
 use lib.Dec.{ltb, leb}
 use borrow.Author.Tests.{leb-true, leb-false, ltb-true, ltb-false, lt-ltb, le-ltb, le-leb, lt-leb, eq-eqb}
 use Rattle.machine.specs.Common.{bit}
-use Rattle.machine.specs.Plant.{Entry, Crossing, Plant, overdue-ticks, unsure-flag, trains, entry}
+use Rattle.machine.specs.declared.Entry.{Entry}
+use Rattle.machine.specs.declared.Crossing.{Crossing}
+use Rattle.machine.specs.declared.Plant.{Plant}
+use Rattle.machine.specs.declared.Event.{Event}
+use Rattle.machine.specs.Plant.{overdue-ticks, unsure-flag, trains, entry}
 use Rattle.machine.specs.Range.{in-range}
-use Rattle.machine.specs.Events.{Event, place-limit, value-limit, refusal, number}
+use Rattle.machine.specs.Events.{place-limit, value-limit, refusal, number}
 use Rattle.machine.specs.Effects.{unsure-after, written-at}
 use Rattle.machine.specs.Settling.{out-settled}
 use Rattle.machine.proofs.Tools.{by-test}
 
 -- A strike-in (T-01) ----------------------------------------------------------------------------------------------------------------
 abbrev strike-in : ℕ → ℕ → Event
