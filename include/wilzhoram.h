@@ -32,12 +32,19 @@ typedef struct {
     wilzhoram_entry entries[8];
 } wilzhoram_site;
 
+/* Boom reports: the value of an event of code 8, and what the plant holds of each boom. A lost position is neither up nor
+ * moving nor down (T-02, docs/notes/T-02.md). */
+#define WILZHORAM_BOOM_UP 0
+#define WILZHORAM_BOOM_MOVING 1
+#define WILZHORAM_BOOM_DOWN 2
+#define WILZHORAM_BOOM_LOST 3
+
 /* What the plant holds for one crossing. A flag is 0 or 1. */
 typedef struct {
     uint8_t calling[4], waiting[4]; /* trains, by track */
     uint8_t route[4], occupied[4];  /* flags, by track */
     uint8_t unsure[4];              /* flags, by track: struck in at 255 trains, no time release completed since (T-01) */
-    uint8_t booms[4];               /* last reports: 0 up, 1 moving, 2 down */
+    uint8_t booms[4];               /* last reports, WILZHORAM_BOOM_UP to WILZHORAM_BOOM_LOST */
     uint8_t lamps[5];               /* flags, 1 whole: road white, road red, train signal red and white, flasher */
     uint8_t kiosk, operator_hold;   /* flags */
     uint16_t countdown;             /* of the time release, 0 to 270 */
@@ -101,7 +108,7 @@ wilzhoram_run_result wilzhoram_run(wilzhoram_plant plant, const uint8_t *sheet, 
 #define WILZHORAM_STACK_READ 832
 #define WILZHORAM_STACK_WRITE 320
 #define WILZHORAM_STACK_EVENT 3584
-#define WILZHORAM_STACK_DRAW 1088
+#define WILZHORAM_STACK_DRAW 1152
 #define WILZHORAM_STACK_RUN 3072
 
 #ifdef __cplusplus

@@ -13,6 +13,7 @@ F0, G0, F1 = 24, 12, 30                         # 8 s and 4 s at crossing 0, 10 
 SITE = ((4, 2, 0, F0, G0), (2, 2, 2, F1, 0))    # kind, tracks, mask, F, G of each crossing
 TRAVEL = 6                                      # ticks from a boom's order to its end position
 ROAD_RED = 1                                    # the lamp reported dead in the afternoon
+UP, MOVING, DOWN, LOST = range(4)               # boom reports
 day = []                                        # its parts, each a heading and events
 
 # Entering events ----------------------------------------------------------------------------------------------------------------
@@ -48,7 +49,7 @@ def lamp(c, l, v): event(9, c, l, v)
 def booms(c, which, end):
     """The booms leave their position, travel, and arrive."""
     for b in which:
-        event(8, c, b, 1)
+        event(8, c, b, MOVING)
     ticks(TRAVEL)
     for b in which:
         event(8, c, b, end)
@@ -58,16 +59,16 @@ def close(c):
     """From the call to the last boom down, as the crossing orders it."""
     if c == 0:
         ticks(F0)
-        booms(0, (0, 1), 2)
+        booms(0, (0, 1), DOWN)
         ticks(G0 - TRAVEL)
-        booms(0, (2, 3), 2)
+        booms(0, (2, 3), DOWN)
     else:
         ticks(F1)
-        booms(1, (0, 1), 2)
+        booms(1, (0, 1), DOWN)
 
 
 def rise(c):
-    booms(c, (0, 1, 2, 3) if c == 0 else (0, 1), 0)
+    booms(c, (0, 1, 2, 3) if c == 0 else (0, 1), UP)
 
 
 def plain_train(c, t):
@@ -172,7 +173,7 @@ EVENTS = (                                      # by code, then by value
     ("route of track {0} cancelled", "route of track {0} set"),
     ("approach of track {0} free", "approach of track {0} occupied"),
     ("time release begins",),
-    ("boom {0} reported up", "boom {0} reported moving", "boom {0} reported down"),
+    ("boom {0} reported up", "boom {0} reported moving", "boom {0} reported down", "position of boom {0} lost"),
     ("lamp {0} reported dead", "lamp {0} reported whole"),
 )
 

@@ -35,7 +35,7 @@ static void play(unsigned code, unsigned place, unsigned value, uint32_t written
 
 /* Reports and approaches: no reason, and no tick that counts. */
 static void reports(void) {
-    for (int value = 2; value >= 0; value--)
+    for (int value = WILZHORAM_BOOM_LOST; value >= WILZHORAM_BOOM_UP; value--)
         for (unsigned b = 0; b < 4; b++) {
             want->booms[b] = (uint8_t)value;
             play(8, b, (unsigned)value, 0);

@@ -40,7 +40,8 @@ wilzhoram_plant random_fresh(unsigned n) {
 
 /* An event of the table, most of the time for this plant; in one of eight, one byte is any. */
 wilzhoram_event_bytes random_event(unsigned n) {
-    static const uint8_t places[10] = {1, 4, 4, 1, 1, 4, 4, 1, 4, 5}, values[10] = {1, 1, 1, 2, 2, 2, 2, 1, 3, 2};
+    static const uint8_t places[10] = {1, 4, 4, 1, 1, 4, 4, 1, 4, 5};
+    static const uint8_t values[10] = {1, 1, 1, 2, 2, 2, 2, 1, WILZHORAM_BOOM_LOST + 1, 2};
     unsigned code = below(4) == 0 ? 0 : below(10);
     uint8_t bytes[4] = {(uint8_t)code, (uint8_t)below(code == 0 ? 1 : n), (uint8_t)below(places[code]),
                         (uint8_t)below(values[code])};

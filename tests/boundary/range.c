@@ -58,7 +58,7 @@ static bool crossing_in(const wilzhoram_entry *e, const wilzhoram_crossing *c) {
     bool in = c->kiosk <= 1 && c->operator_hold <= 1 && c->countdown <= 270 && c->out <= 901
         && phase_in(e, c->phase, c->timer);
     for (int i = 0; i < 4; i++)
-        in = in && track_in(e, c, i) && c->booms[i] <= (i < booms ? 2 : 0);
+        in = in && track_in(e, c, i) && c->booms[i] <= (i < booms ? WILZHORAM_BOOM_LOST : 0);
     for (int i = 0; i < 5; i++)
         in = in && c->lamps[i] <= 1;
     return in;

@@ -4,6 +4,7 @@ use mathlib.Core.List.{List, [], _∷_, _++_}
 use Prim.Native.Nat.{ℕ}
 use lib.ListN.{getD}
 use Rattle.machine.specs.declared.Event.{Event}
+use Rattle.machine.specs.Reports.{up, moving, down}
 use Rattle.machine.specs.Plant.{crossing, fresh-plant, dependent, reason, booms-up, booms-down, booms-closed, normal, secured}
 use Rattle.machine.specs.Range.{entry-in, entry-zero, track-in, phase-in, crossing-in, crossing-zero, place-in, in-range}
 use Rattle.machine.specs.Events.{place-limit, value-limit, refusal, number}
@@ -19,7 +20,7 @@ use Rattle.chart.proofs.Release.{carried-269, carried-270, phase-270}
 abbrev phase-signal : List ℕ → List Event → List ℕ
 phase-signal book es = getD (shown book es) 10 0 ∷ getD (shown book es) 6 0 ∷ []
 
--- both booms report a value
+-- both booms report
 abbrev reports : ℕ → ℕ → List Event
 reports a b = ev 8 0 a ∷ ev 8 1 b ∷ []
 
@@ -29,7 +30,7 @@ closing = strike-in ∷ a-tick ∷ a-tick ∷ []
 
 -- the program's case
 abbrev closed : List Event
-closed = closing ++ reports 2 2
+closed = closing ++ reports down down
 
 -- bytes 14, 12 and 10: waiting, calling and phase
 abbrev queue-phase : List ℕ → List Event → List ℕ
@@ -38,16 +39,16 @@ queue-phase book es = getD (shown book es) 14 0 ∷ getD (shown book es) 12 0 �
 pub record Chart : Type 0 where
   pub fresh : shown (site 3 0) [] ≡ 1 ∷ 13 ∷ 0 ∷ 0 ∷ 0 ∷ 0 ∷ 1 ∷ 1 ∷ 0 ∷ 1 ∷ 0 ∷ 0 ∷ 0 ∷ 0 ∷ 0 ∷ 0 ∷ []
   pub program : shown (site 3 0) closed ≡ 2 ∷ 15 ∷ 0 ∷ 1 ∷ 1 ∷ 0 ∷ 2 ∷ 2 ∷ 0 ∷ 2 ∷ 3 ∷ 0 ∷ 1 ∷ 0 ∷ 0 ∷ 0 ∷ []
-  pub one-tick-fewer : phase-signal (site 3 0) (strike-in ∷ a-tick ∷ reports 2 2) ≡ 1 ∷ 1 ∷ []
+  pub one-tick-fewer : phase-signal (site 3 0) (strike-in ∷ a-tick ∷ reports down down) ≡ 1 ∷ 1 ∷ []
   pub gone-in-warning : getD (shown (site 3 0) (strike-in ∷ passage ∷ [])) 10 0 ≡ 0
   pub raising : phase-signal (site 3 0) (closed ++ passage ∷ []) ≡ 4 ∷ 1 ∷ []
-  pub opened : getD (shown (site 3 0) (closed ++ passage ∷ reports 0 0)) 10 0 ≡ 0
-  pub again : getD (shown (site 3 0) (closed ++ passage ∷ strike-in ∷ reports 0 0)) 10 0 ≡ 1
-  pub again-timer : crossing (after (read (site 3 0) .plant) (closed ++ passage ∷ strike-in ∷ reports 0 0)) 0 .timer ≡ 2
+  pub opened : getD (shown (site 3 0) (closed ++ passage ∷ reports up up)) 10 0 ≡ 0
+  pub again : getD (shown (site 3 0) (closed ++ passage ∷ strike-in ∷ reports up up)) 10 0 ≡ 1
+  pub again-timer : crossing (after (read (site 3 0) .plant) (closed ++ passage ∷ strike-in ∷ reports up up)) 0 .timer ≡ 2
   pub waits : queue-phase (site 3 1) (strike-in ∷ []) ≡ 1 ∷ 0 ∷ 0 ∷ []
   pub route-set : queue-phase (site 3 1) (strike-in ∷ ev 5 0 1 ∷ []) ≡ 0 ∷ 1 ∷ 1 ∷ []
-  pub both-moving : phase-signal (site 2 0) (closing ++ reports 1 1) ≡ 3 ∷ 2 ∷ []
-  pub one-up : phase-signal (site 2 0) (closing ++ reports 1 0) ≡ 3 ∷ 1 ∷ []
+  pub both-moving : phase-signal (site 2 0) (closing ++ reports moving moving) ≡ 3 ∷ 2 ∷ []
+  pub one-up : phase-signal (site 2 0) (closing ++ reports moving up) ≡ 3 ∷ 1 ∷ []
   pub red-dead-road : getD (shown (site 3 0) (closed ++ ev 9 1 0 ∷ [])) 0 0 ≡ 0
   pub red-dead-stop : phase-signal (site 3 0) (closed ++ ev 9 1 0 ∷ []) ≡ 3 ∷ 1 ∷ []
   pub one-tick : getD (shown (site 3 0) (a-tick ∷ [])) 1 0 ≡ 0

@@ -8,6 +8,7 @@ use Rattle.machine.specs.Common.{tab}
 use Rattle.machine.specs.declared.Crossing.{Crossing}
 use Rattle.machine.specs.declared.Plant.{Plant}
 use Rattle.machine.specs.declared.Event.{Event}
+use Rattle.machine.specs.Reports.{up}
 use Rattle.machine.specs.Plant.{no-crossing, fresh-plant, dependent, reason, booms-up, booms-down, booms-closed, normal, secured}
 use Rattle.machine.specs.Range.{entry-in, entry-zero, track-in, phase-in, crossing-in, crossing-zero, place-in, in-range}
 use Rattle.machine.specs.Events.{place-limit, value-limit, refusal, number}
@@ -50,7 +51,7 @@ held = record {
   route = tab 4 (λ t. 0);
   occupied = tab 4 (λ t. 0);
   unsure = tab 4 (λ t. 0);
-  booms = tab 4 (λ b. 0);
+  booms = tab 4 (λ b. up);
   lamps = tab 5 (λ l. 1);
   kiosk = 0;
   operator = 0;

@@ -1,7 +1,7 @@
 -- Demand 3, proved: the parts at one crossing, then the claim for every book and every list.
 use mathlib.Core.Path.{_≡_, refl, sym, _∙_, ap}
 use mathlib.Core.Logic.{⊎-elim}
-use mathlib.Core.Bool.{Bool, true, false, cond, not, _||_, true≢false, or-true}
+use mathlib.Core.Bool.{Bool, true, false, _||_, true≢false, or-true}
 use mathlib.Core.List.{List}
 use Prim.Native.Nat.{ℕ, _%_, _≤_, _<_}
 use native.Mathlib.Omega.{arith}
@@ -23,7 +23,7 @@ use Rattle.machine.proofs.Tools.{by-test, and-both, all-below-same, getD-tab}
 use Rattle.machine.proofs.Taken.{step-site}
 use Rattle.machine.proofs.Ranges.{PlantIn, plant-reads}
 use Rattle.machine.proofs.Laws.{fresh-in-range, panel-at}
-use Rattle.demand.specs.Words.{all-up, all-closed}
+use Rattle.demand.specs.Words.{up, all-up, as-demanded, all-closed}
 use Rattle.demand.specs.Ledger.{stands, some-unsure}
 use Rattle.demand.specs.Demand.{known, stands-after, Unbroken, needed, shown, a-tick, Closed, Kept, Demand}
 use Rattle.demand.proofs.Unbroken.{stands-now, at-least}
@@ -69,7 +69,7 @@ module _ (p : Plant) (es : List Event) (k : Sound p es) (i : ℕ) (l : i < p .si
       let u = all-down (λ n. Unbroken p i n es) s (c .phase) (c .timer) (at .timed) (eqb-true _ _ (b .0)) (no-timer-in (λ x. eqb x 3) refl refl (b .0)) in
       record {
         unbroken = at-least p i (needed s) es (u .2) (u .1);
-        booms = sym (booms-same (λ x. cond (eqb (s .kind) 2) (not (eqb x 0)) (eqb x 2))) ∙ a .1;
+        booms = sym (booms-same (as-demanded (s .kind))) ∙ a .1;
         red = sym (at .agree .lamp 1 (lit< tt)) ∙ eqb-true _ _ (b .1);
       }
 
@@ -79,12 +79,12 @@ module _ (p : Plant) (es : List Event) (k : Sound p es) (i : ℕ) (l : i < p .si
 
     after-tick : all-up (s .kind) (known p i es .boom) ≡ true → shown (step q a-tick .plant) i 9 % 2 ≡ 1
     unfolding booms-up all-up touch row
-    after-tick up =
+    after-tick raised =
         let t = tick-taken q (k .range) in
         let same : entry q i ≡ s = ap (λ x. getD (x .entries) i no-entry) (k .site) in
         let byte = shows p (step q a-tick .plant) (step-site q a-tick ∙ k .site) i 9 l (lit< tt) in
         let now = crossing-after q a-tick t i (omega (arith, range .count, ap (λ x. x .n) (k .site))) in
-        rw (byte, now, same) (normal-bit s (settle s 1 (tick s c)) (opened s c at-rest (no-timer-in rests refl refl at-rest) (reason-stands (at .agree) ∙ none) (booms-same (λ x. eqb x 0) ∙ up)))
+        rw (byte, now, same) (normal-bit s (settle s 1 (tick s c)) (opened s c at-rest (no-timer-in rests refl refl at-rest) (reason-stands (at .agree) ∙ none) (booms-same (λ x. eqb x up) ∙ raised)))
 
   -- an unsure track is a reason
   marked : some-unsure (known p i es) ≡ true → stands-after p i es ≡ true

@@ -8,7 +8,7 @@ use Rattle.machine.specs.declared.Entry.{Entry}
 use Rattle.machine.specs.declared.Plant.{Plant}
 use Rattle.machine.specs.declared.Event.{Event}
 use Rattle.machine.specs.Step.{step}
-use Rattle.demand.specs.Words.{bit, sum4, some-track, is, is-to, is-at, depends}
+use Rattle.demand.specs.Words.{bit, sum4, some-track, is, is-to, is-at, depends, up}
 
 -- The taken events ---------------------------------------------------------------------------------------------------------------
 -- taken: answered with number 0
@@ -83,7 +83,7 @@ pub record State : Type 0 where
 
 -- before any event: no trains, routes or holds, no track unsure, every boom up, every lamp whole
 abbrev pub start : State
-start = record { queue = λ t. empty; unsure = λ t. 0; route = λ t. 0; boom = λ b. 0; lamp = λ l. 1; kiosk = 0; operator = 0; countdown = 0; written = 0 }
+start = record { queue = λ t. empty; unsure = λ t. 0; route = λ t. 0; boom = λ b. up; lamp = λ l. 1; kiosk = 0; operator = 0; countdown = 0; written = 0 }
 
 -- the trains of all tracks
 abbrev pub trains : State → ℕ

@@ -1,6 +1,6 @@
 -- The claim's own words: what a code, a mask, a kind and a report mean, said again here and not taken from the machine's definitions,
 -- so that a machine which has one of them wrong does not keep the claim.
-use mathlib.Core.Bool.{Bool, cond, not, _&&_, _||_}
+use mathlib.Core.Bool.{Bool, cond, _&&_, _||_}
 use Prim.Native.Nat.{ℕ, zero, suc, _+_, _/_, _%_, _^_}
 use lib.Dec.{eqb, leb}
 use Rattle.machine.specs.declared.Entry.{Entry}
@@ -51,10 +51,27 @@ each-boom kind f =
     let lacks = leb (boom-count kind) in
     (lacks 0 || f 0) && (lacks 1 || f 1) && (lacks 2 || f 2) && (lacks 3 || f 3)
 
+-- Boom reports: 3, position lost (T-02), is none of these three
+-- the boom is up
+abbrev pub up : ℕ
+up = 0
+
+-- it moves, up or down
+abbrev pub moving : ℕ
+moving = 1
+
+-- it is down
+abbrev pub down : ℕ
+down = 2
+
 -- every boom last reported up
 unfoldable pub all-up : ℕ → (ℕ → ℕ) → Bool
-all-up kind report = each-boom kind (λ b. eqb (report b) 0)
+all-up kind report = each-boom kind (λ b. eqb (report b) up)
 
--- the booms as the kind demands: kind 2 no boom reported up, kinds 3 and 4 every boom reported down
+-- how a kind demands a boom: kind 2 reported moving or down (T-02), kinds 3 and 4 reported down
+abbrev pub as-demanded : ℕ → ℕ → Bool
+as-demanded kind report = cond (eqb kind 2) (eqb report moving || eqb report down) (eqb report down)
+
+-- every boom as the kind demands
 unfoldable pub all-closed : ℕ → (ℕ → ℕ) → Bool
-all-closed kind report = each-boom kind (λ b. cond (eqb kind 2) (not (eqb (report b) 0)) (eqb (report b) 2))
+all-closed kind report = each-boom kind (λ b. as-demanded kind (report b))

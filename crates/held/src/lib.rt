@@ -1,17 +1,17 @@
 // What one crossing holds is in its range (document 01, "What the plant holds").
 use machine::Crossing;
 use machine::Entry;
-ghost use mathlib.Core.Bool.{cond};
+use machine::reports;
 ghost use mathlib.Core.Path.{_≡_};
 ghost use Rattle.machine.specs.Common.{all-below};
 ghost use Rattle.machine.specs.Plant.{lamp-flag};
-ghost use Rattle.machine.specs.Range.{boom-in, crossing-in, flag-in, phase-in};
+ghost use Rattle.machine.specs.Range.{report-limit, boom-in, crossing-in, flag-in, phase-in};
 
-// The highest report of a boom; a boom that the crossing lacks stays at 0.
+// The highest report of a boom (document 02, T-02); a boom that the crossing lacks stays at 0.
 fn report_limit(present: bool) -> u8
-    ensures { λ r. ⌜ r ≡ cond present 2 0 ⌝ }
+    ensures { λ r. ⌜ r ≡ report-limit present ⌝ }
 {
-    if present { 2 } else { 0 }
+    if present { reports::LOST } else { 0 }
 }
 
 // The last report of each boom is in its range.

@@ -1,16 +1,16 @@
--- The limits 255 and 900 to the unit, in plain numbers.
+-- The limits 255, 900 and 3 (the last boom report, T-02) to the unit, in plain numbers.
 use mathlib.Core.Path.{_≡_, refl}
 use mathlib.Core.Bool.{true, false, cond, and-true}
 use Prim.Native.Nat.{ℕ, zero, suc, _≤_, _<_}
 use native.Mathlib.Omega.{arith}
 use lib.Dec.{ltb, leb}
-use borrow.Author.Tests.{leb-true, leb-false, ltb-true, ltb-false, lt-ltb, le-ltb, le-leb, lt-leb, eq-eqb}
-use Rattle.machine.specs.Common.{bit}
+use borrow.Author.Tests.{ltb-true, ltb-false, le-leb, lt-leb, eq-eqb}
+use Rattle.machine.specs.Common.{bit, refuse}
 use Rattle.machine.specs.declared.Entry.{Entry}
 use Rattle.machine.specs.declared.Crossing.{Crossing}
 use Rattle.machine.specs.declared.Plant.{Plant}
 use Rattle.machine.specs.declared.Event.{Event}
-use Rattle.machine.specs.Plant.{overdue-ticks, unsure-flag, trains, entry}
+use Rattle.machine.specs.Plant.{overdue-ticks, boom-count, unsure-flag, trains, entry}
 use Rattle.machine.specs.Range.{in-range}
 use Rattle.machine.specs.Events.{place-limit, value-limit, refusal, number}
 use Rattle.machine.specs.Effects.{unsure-after, written-at}
@@ -37,6 +37,15 @@ module _ (i t : ℕ) (c : Crossing) where
   unfolding unsure-after
   strike-in-unsure = rw (eq-eqb t t refl, and-true)
 
+-- A boom report (T-02) --------------------------------------------------------------------------------------------------------------
+abbrev boom-report : ℕ → ℕ → ℕ → Event
+boom-report i b v = record { code = 8; crossing = i; place = b; value = v }
+
+-- at a boom of the plant 0 to 3 are taken, and from 4 on it is number 8
+pub boom-report-number : (p : Plant) (i b v : ℕ) → in-range p ≡ true → i < p .site .n → b < boom-count (entry p i .kind) → number p (boom-report i b v) ≡ refuse (leb 4 v) 8 0
+unfolding number refusal place-limit value-limit
+boom-report-number p i b v h a l = rw (h, lt-leb _ _ a, lt-leb _ _ l)
+
 -- Ticks out of normal ----------------------------------------------------------------------------------------------------------------
 -- ticks out of normal after n ticks without a break
 unfoldable pub out-after : ℕ → ℕ
@@ -46,14 +55,14 @@ out-after (suc n) = out-settled false 1 (out-after n)
 before : (n : ℕ) → n ≤ 900 → out-after n ≡ n
 unfolding out-settled out-after
 before zero l = refl
-before (suc n) l = rw (before n (omega arith), le-leb n 900 (omega arith)) (omega arith)
+before (suc n) l = rw (before n (omega arith), le-leb n overdue-ticks (omega arith)) (omega arith)
 
 past : (n : ℕ) → 900 < n → out-after n ≡ 901
 unfolding out-settled out-after
 past zero l = absurd (omega arith)
 past (suc n) l = by-test (ltb 900 n)
     (λ q. rw (past n (ltb-true _ _ q)))
-    (λ q. let m : n ≤ 900 = ltb-false _ _ q in rw (before n m, le-leb n 900 m) (omega arith))
+    (λ q. let m : n ≤ 900 = ltb-false _ _ q in rw (before n m, le-leb n overdue-ticks m) (omega arith))
 
 -- 900 ticks leave the panel's bit clear, 901 set it
 pub overdue : (n : ℕ) → ltb overdue-ticks (out-after n) ≡ ltb 900 n

@@ -2,11 +2,11 @@
 use mathlib.Core.Path.{_≡_, sym, ap}
 use mathlib.Core.Bool.{true, _&&_}
 use Prim.Native.Nat.{ℕ, _^_, _≤_}
-use lib.Dec.{eqb, ltb, leb}
+use lib.Dec.{eqb, ltb, leb, lit≤}
 use borrow.Author.Tests.{eqb-true, leb-true}
-use Rattle.machine.specs.Plant.{Entry, no-entry}
+use Rattle.machine.specs.Plant.{Entry, no-entry, lights-only, boom-count}
 use Rattle.machine.specs.Range.{gap-in, entry-in, entry-zero, count-in}
-use Rattle.machine.proofs.Tools.{and-both}
+use Rattle.machine.proofs.Tools.{by-cond, and-both}
 
 pub record EntryIn (s : Entry) : Type 0 where
   pub tracks : s .tracks ≤ 4
@@ -32,6 +32,10 @@ entry-reads s q =
 -- G of four booms is at least 1
 pub some-gap : {s : Entry} → EntryIn s → eqb (s .kind) 4 ≡ true → 1 ≤ s .gap
 some-gap {s} h four = leb-true _ _ (and-both (leb 1 (s .gap)) (leb (s .gap) 90) (rw four at (h .gap)) .0)
+
+-- no kind has more than four booms
+pub at-most-four : (kind : ℕ) → boom-count kind ≤ 4
+at-most-four kind = by-cond (λ x. x ≤ 4) (lights-only kind) (λ _. lit≤ tt) (λ _. by-cond (λ x. x ≤ 4) (eqb kind 4) (λ _. lit≤ tt) (λ _. lit≤ tt))
 
 pub at-most-eight : (n : ℕ) → count-in n ≡ true → n ≤ 8
 at-most-eight n q = leb-true n 8 (and-both (leb 1 n) (leb n 8) q .1)

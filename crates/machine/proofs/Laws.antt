@@ -9,7 +9,7 @@ use lib.ListN.{getD, length, length-append}
 use borrow.Author.Tests.{eqb-true, eqb-false, eq-eqb, leb-true, lt-ltb, le-ltb, not-false}
 use Rattle.machine.specs.Common.{tab, all-below}
 use Rattle.machine.specs.Plant.{Entry, Site, Plant, entry, crossing, no-entry, no-crossing, fresh-crossing, fresh-plant, boom-count}
-use Rattle.machine.specs.Range.{entry-in, entry-zero, boom-in, crossing-zero, count-in, in-range}
+use Rattle.machine.specs.Range.{entry-in, entry-zero, report-limit, boom-in, crossing-zero, count-in, in-range}
 use Rattle.machine.specs.Events.{Event, is, number}
 use Rattle.machine.specs.Step.{touch, apply, step}
 use Rattle.machine.specs.Panel.{row, panel}
@@ -42,8 +42,8 @@ fresh-used s = record {
       lacking = λ _. record { calling = refl; waiting = refl; route = refl; occupied = refl; unsure = refl };
     }
 
-    up : (b : ℕ) → leb 0 (cond (ltb b (boom-count (s .kind))) 2 0) ≡ true
-    up b = leb·zero (cond (ltb b (boom-count (s .kind))) 2 0)
+    up : (b : ℕ) → leb 0 (report-limit (ltb b (boom-count (s .kind)))) ≡ true
+    up b = leb·zero (report-limit (ltb b (boom-count (s .kind))))
 
 fresh-past : NoCrossing no-crossing
 unfolding crossing-zero

@@ -3,12 +3,13 @@ use mathlib.Core.Path.{_≡_, refl, sym, _∙_}
 use mathlib.Core.Bool.{Bool, true, false, cond, _&&_, true≢false, and-false}
 use Prim.Native.Nat.{ℕ, suc, _+_, _≤_, _<_}
 use native.Mathlib.Omega.{arith}
-use lib.Dec.{eqb, ltb, leb, lit<}
+use lib.Dec.{eqb, ltb, leb, lit≤, lit<}
 use lib.ListN.{getD}
 use borrow.Author.Tests.{eqb-true, eqb-false, leb-true, leb-false, le-leb, lt-ltb}
 use Rattle.machine.specs.Common.{tab, bit}
 use Rattle.machine.specs.Plant.{Entry, Crossing, Plant, release-ticks, overdue-ticks, full, calling, waiting, route-flag, occupied-flag, unsure-flag, boom, lamp-flag, trains, entry, crossing, no-crossing, dependent, boom-count, reason, booms-up}
-use Rattle.machine.specs.Range.{in-range, boom-in}
+use Rattle.machine.specs.Reports.{lost}
+use Rattle.machine.specs.Range.{in-range, report-limit, boom-in}
 use Rattle.machine.specs.Events.{Event, is, is-at, on-track, place-limit, value-limit, number}
 use Rattle.machine.specs.Effects.{sweeps, calling-after, waiting-after, unsure-after, cancels, act, releases, phase-ticked, timer-ticked, tick}
 use Rattle.machine.specs.Settling.{phase-settled, timer-settled, out-settled, with-phase, settle}
@@ -39,7 +40,7 @@ module _ (s : Entry) (g : EntryIn s) where
     kiosk = h .kiosk;
     operator = h .operator;
     countdown = h .countdown;
-    phase = phase-settles s g (reason c) (booms-up (s .kind) (boom c)) (h .phase);
+    phase = phase-settles s g (reason c) _ (h .phase);
     out = out-law _ add (c .out) l;
   }
 
@@ -136,16 +137,17 @@ module _ (s : Entry) (g : EntryIn s) where
       lacking = λ m. rw (elsewhere 1 t refl m, elsewhere 2 t refl m, elsewhere 5 t refl m, elsewhere 6 t refl m, not-swept t m) (as-it-was (sweeps c e) (h .lacking m));
     }
 
-    boom-acts : (b : ℕ) → boom-in s c b ≡ true → leb (cond (is-at 8 b e) (e .value) (boom c b)) (cond (ltb b (boom-count (s .kind))) 2 0) ≡ true
+    boom-acts : (b : ℕ) → boom-in s c b ≡ true → leb (cond (is-at 8 b e) (e .value) (boom c b)) (report-limit (ltb b (boom-count (s .kind)))) ≡ true
     unfolding place-limit value-limit
-    boom-acts b h = by-cond (λ x. leb x (cond (ltb b (boom-count (s .kind))) 2 0) ≡ true) (is-at 8 b e)
+    boom-acts b h = by-cond (λ x. leb x (report-limit (ltb b (boom-count (s .kind)))) ≡ true) (is-at 8 b e)
         (λ q.
         let k = and-both (is 8 e) (eqb (e .place) b) q in
         let eight : e .code ≡ 8 = eqb-true _ _ (k .0) in
         let at : e .place ≡ b = eqb-true _ _ (k .1) in
         let l : b < boom-count (s .kind) = rw at at (rw eight at (a .place)) in
-        let v : e .value < 3 = rw eight at (a .value) in
-        rw (lt-ltb _ _ l) (le-leb (e .value) 2 (omega arith)))
+        let v : e .value < value-limit 8 = rw eight at (a .value) in
+        let most : value-limit 8 ≤ suc lost = lit≤ tt in
+        rw (lt-ltb _ _ l) (le-leb (e .value) lost (omega (arith, v, most))))
         (λ _. h)
 
     acts : CrossingIn s c → CrossingIn s (act s c e)

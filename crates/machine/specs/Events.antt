@@ -1,10 +1,11 @@
 -- Events: the table of codes, places and values, and the number of an event.
 use mathlib.Core.Bool.{Bool, cond, not, _&&_, _||_}
-use Prim.Native.Nat.{ℕ}
+use Prim.Native.Nat.{ℕ, suc}
 use lib.Dec.{eqb, ltb, leb}
 pub use Rattle.machine.specs.declared.Event.{Event}
 use Rattle.machine.specs.Common.{any-below, refuse}
 use Rattle.machine.specs.Numbers.{unknown-code, unknown-crossing, unknown-place, unknown-value, no-train, train-calling, not-clear, not-dependent, out-of-range}
+use Rattle.machine.specs.Reports.{lost}
 use Rattle.machine.specs.Plant.{Entry, Crossing, Plant, calling, route, occupied, kiosk, operator, trains, entry, crossing, dependent, boom-count}
 use Rattle.machine.specs.Range.{in-range}
 
@@ -37,9 +38,9 @@ crossing-limit n code = cond (eqb code 0) 1 n
 unfoldable pub place-limit : Entry → ℕ → ℕ
 place-limit s code = cond (on-track code) (s .tracks) (cond (eqb code 8) (boom-count (s .kind)) (cond (eqb code 9) 5 1))
 
--- value: a boom reports 0 to 2; holds, routes, approaches and lamps 0 or 1
+-- value: a boom reports at most lost (T-02); holds, routes, approaches and lamps 0 or 1
 unfoldable pub value-limit : ℕ → ℕ
-value-limit code = cond (eqb code 8) 3 (cond (on-off code) 2 1)
+value-limit code = cond (eqb code 8) (suc lost) (cond (on-off code) 2 1)
 
 -- some track is calling: operator hold off is refused
 abbrev pub any-calling : Crossing → Bool

@@ -1,5 +1,5 @@
 -- What the plant holds: how a record is read, the fresh plant, and what document 01 says of a whole crossing.
-use mathlib.Core.Bool.{Bool, false, cond, not, _&&_, _||_}
+use mathlib.Core.Bool.{Bool, false, cond, _&&_, _||_}
 use Prim.Native.Nat.{ℕ, _+_, _/_, _%_, _^_}
 use lib.Dec.{eqb, ltb, leb}
 use lib.ListN.{getD}
@@ -8,6 +8,7 @@ pub use Rattle.machine.specs.declared.Site.{Site}
 pub use Rattle.machine.specs.declared.Crossing.{Crossing}
 pub use Rattle.machine.specs.declared.Plant.{Plant}
 use Rattle.machine.specs.Common.{tab, all-below, any-below, sum4, bit}
+use Rattle.machine.specs.Reports.{up, moving, down}
 
 -- Constants ----------------------------------------------------------------------------------------------------------------------
 -- the release countdown begins here
@@ -59,7 +60,7 @@ unsure-flag c t = getD (c .unsure) t 0
 abbrev pub unsure : Crossing → ℕ → Bool
 unsure c t = is-on (unsure-flag c t)
 
--- the last report of boom b: 0 up, 1 moving, 2 down
+-- the last report of boom b: up, moving, down or lost (T-02)
 abbrev pub boom : Crossing → ℕ → ℕ
 boom c b = getD (c .booms) b 0
 
@@ -104,7 +105,7 @@ fresh-crossing used = record {
   route = tab 4 (λ t. 0);
   occupied = tab 4 (λ t. 0);
   unsure = tab 4 (λ t. 0);
-  booms = tab 4 (λ b. 0);
+  booms = tab 4 (λ b. up);
   lamps = tab 5 (λ l. bit used 1);
   kiosk = 0;
   operator = 0;
@@ -157,15 +158,19 @@ reason c = reason-of (kiosk c) (operator c) (calling c) (unsure c)
 
 -- every boom reported up
 unfoldable pub booms-up : ℕ → (ℕ → ℕ) → Bool
-booms-up kind boom = each-boom kind (λ b. eqb (boom b) 0)
+booms-up kind boom = each-boom kind (λ b. eqb (boom b) up)
 
 -- every boom reported down
 unfoldable pub booms-down : ℕ → (ℕ → ℕ) → Bool
-booms-down kind boom = each-boom kind (λ b. eqb (boom b) 2)
+booms-down kind boom = each-boom kind (λ b. eqb (boom b) down)
 
--- the booms as the kind demands: kind 2 no boom reported up, kinds 3 and 4 every boom reported down
+-- one boom as the kind demands: kind 2 reported moving or down (T-02), kinds 3 and 4 reported down
+abbrev pub boom-closed : ℕ → ℕ → Bool
+boom-closed kind report = cond (eqb kind 2) (eqb report moving || eqb report down) (eqb report down)
+
+-- every boom as the kind demands
 unfoldable pub booms-closed : ℕ → (ℕ → ℕ) → Bool
-booms-closed kind boom = each-boom kind (λ b. cond (eqb kind 2) (not (eqb (boom b) 0)) (eqb (boom b) 2))
+booms-closed kind boom = each-boom kind (λ b. boom-closed kind (boom b))
 
 -- normal position: phase 0 and every boom last reported up
 unfoldable pub normal : Entry → Crossing → Bool

@@ -3,6 +3,7 @@ use mathlib.Core.Bool.{Bool, cond, not, _&&_, _||_}
 use Prim.Native.Nat.{ℕ, suc, _^_}
 use lib.Dec.{eqb, ltb, leb}
 use Rattle.machine.specs.Common.{all-below}
+use Rattle.machine.specs.Reports.{lost}
 use Rattle.machine.specs.Plant.{Entry, Crossing, Plant, release-ticks, overdue-ticks, full, calling, waiting, route-flag, occupied-flag, unsure-flag, boom, lamp-flag, trains, entry, crossing, dependent, lights-only, boom-count}
 
 -- G: 1 to 90 for kind 4, otherwise 0
@@ -39,9 +40,13 @@ track-in s c t =
     && (dependent s t || (eqb (waiting c t) 0 && eqb (route-flag c t) 0))
     && (ltb t (s .tracks) || track-zero c t)
 
--- a report is 0 to 2; a boom that the crossing lacks is 0
+-- a report is at most lost (T-02); that of a boom which the crossing lacks is 0
+abbrev pub report-limit : Bool → ℕ
+report-limit present = cond present lost 0
+
+-- the last report of boom b
 abbrev pub boom-in : Entry → Crossing → ℕ → Bool
-boom-in s c b = leb (boom c b) (cond (ltb b (boom-count (s .kind))) 2 0)
+boom-in s c b = leb (boom c b) (report-limit (ltb b (boom-count (s .kind))))
 
 -- timer 1 to F in phase 1, 1 to G in phase 2 (kind 4 only), 0 in phases 0, 3 and 4 (kinds 2 to 4)
 unfoldable pub phase-in : Entry → ℕ → ℕ → Bool

@@ -1,6 +1,7 @@
 // The types of the crossing engine (document 01, "What the plant holds") and the fresh plant.
 // What each event does and what each panel byte shows is defined in specs/.
 pub mod numbers;
+pub mod reports;
 
 ghost use mathlib.Core.Path.{_≡_};
 ghost use Rattle.machine.specs.Plant.{fresh-crossing, fresh-plant};
@@ -25,7 +26,8 @@ pub struct Site {
 // One crossing: five arrays by track, the last reports of its booms and lamps, and its numbers.
 // A flag (route, occupied, unsure, lamps, holds) is a byte, 0 or 1: every other value is out of its range. A track is unsure
 // from a strike-in that found it full to the next completed time release (document 02, T-01).
-// Booms: 0 up, 1 moving, 2 down. Lamps: road white, road red, train signal red, train signal white, flasher.
+// Booms: up, moving, down or position lost (document 02, T-02), the numbers of mod reports.
+// Lamps: road white, road red, train signal red, train signal white, flasher.
 // Phases: 0 open, 1 warning, 2 right booms ordered down, 3 all ordered down, 4 raising.
 #[repr(C)]
 pub struct Crossing {
@@ -106,7 +108,7 @@ impl Crossing {
             route: [0; 4],
             occupied: [0; 4],
             unsure: [0; 4],
-            booms: [0; 4],
+            booms: [reports::UP; 4],
             lamps: [used as u8; 5],
             kiosk: 0,
             operator: 0,

@@ -9,10 +9,10 @@ use borrow.Author.Tests.{eqb-true}
 use Rattle.machine.specs.declared.Entry.{Entry}
 use Rattle.machine.specs.declared.Crossing.{Crossing}
 use Rattle.machine.specs.declared.Event.{Event}
-use Rattle.machine.specs.Plant.{full, trains, lights-only, boom-count}
+use Rattle.machine.specs.Plant.{full, trains}
 use Rattle.machine.specs.Events.{is, on-track, place-limit, refusal}
 use Rattle.machine.proofs.Tools.{by-test, by-cond}
-use Rattle.machine.proofs.Entries.{EntryIn}
+use Rattle.machine.proofs.Entries.{EntryIn, at-most-four}
 use Rattle.machine.proofs.Ranges.{CrossingIn}
 use Rattle.machine.proofs.Taken.{accepted}
 use Rattle.train.specs.Room.{Room}
@@ -28,10 +28,7 @@ limit-fits s code four = by-test (eqb code 9)
     (λ q. rw (eqb-true code 9 q) (le-refl 5))
     (λ q. rw q
     (by-cond (λ x. x ≤ 4) (on-track code) (λ _. four) (λ _.
-    by-cond (λ x. x ≤ 4) (eqb code 8) (λ _. booms (s .kind)) (λ _. lit≤ tt))))
-  where
-    booms : (kind : ℕ) → boom-count kind ≤ 4
-    booms kind = by-cond (λ x. x ≤ 4) (lights-only kind) (λ _. lit≤ tt) (λ _. by-cond (λ x. x ≤ 4) (eqb kind 4) (λ _. lit≤ tt) (λ _. lit≤ tt))
+    by-cond (λ x. x ≤ 4) (eqb code 8) (λ _. at-most-four (s .kind)) (λ _. lit≤ tt))))
 
 pub taken-room : (n : ℕ) (s : Entry) (c : Crossing) (e : Event) → EntryIn s → CrossingIn s c → refusal n s c e ≡ 0 → Room c e
 unfolding place-limit

@@ -6,7 +6,7 @@ ghost use Rattle.machine.specs.Common.{all-below};
 ghost use Rattle.machine.specs.Plant.{boom, lamp-flag};
 ghost use Rattle.machine.specs.Range.{crossing-zero};
 
-// Every boom is last reported up.
+// Every boom is zero.
 fn booms_zero(c: Crossing) -> bool
     ensures { λ r. ⌜ r ≡ all-below 4 (λ b. eqb (boom c b) 0) ⌝ }
 {

@@ -3,6 +3,7 @@ use machine::Crossing;
 use machine::Entry;
 use machine::Event;
 use machine::numbers;
+use machine::reports;
 ghost use mathlib.Core.Bool.{_&&_};
 ghost use mathlib.Core.Path.{_≡_};
 ghost use Prim.Native.Nat.{_≤_};
@@ -39,7 +40,7 @@ fn place_limit(s: Entry, code: u8) -> u8
     }
 }
 
-// The event's value is below this.
+// The event's value is below this. A boom reports at most that its position is lost (document 02, T-02).
 fn value_limit(code: u8) -> u8
     ensures { λ r. ⌜ r ≡ value-limit code ⌝ }
 {
@@ -48,7 +49,7 @@ fn value_limit(code: u8) -> u8
         4 => 2,
         5 => 2,
         6 => 2,
-        8 => 3,
+        8 => reports::LOST + 1,
         9 => 2,
         _ => 1,
     }

@@ -1,7 +1,7 @@
 //! Cases with a part of another left out or lowered.
 
 use crate::case::Case;
-use engine::{Crossing, Entry, Plant, Site};
+use engine::{boom, Crossing, Entry, Plant, Site};
 use gen::{book_bytes, sheet_bytes, sheet_events};
 
 /// The cases one step away from a case.
@@ -155,7 +155,9 @@ fn lower_records(c: &Crossing) -> Vec<Crossing> {
         for lower in [0, 1, c.waiting[i] / 2] {
             with(&|c| c.waiting[i] = lower);
         }
-        with(&|c| c.booms[i] = 0);
+        for report in boom::UP..=boom::LOST + 1 {
+            with(&|c| c.booms[i] = report);
+        }
     }
     for flag in [0, 1, 2] {
         for i in 0..4 {

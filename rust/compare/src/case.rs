@@ -2,9 +2,10 @@
 
 use engine::{book_len, in_range, panel_len, Plant, Site, MAX_EVENTS};
 use gen::{
-    all_lengths, book, coherent, damaged_book, damaged_sheet, event, event_grid, every_flag, frame,
-    junk_event, mixed, plant, quick_site, sheet_bytes, site, spoilt_plant, swept_event, swept_grid,
-    swept_plant, BookDamage, Rng, SheetDamage, Spoil,
+    all_lengths, book, coherent, damaged_book, damaged_sheet, event, event_grid, every_boom,
+    every_flag, frame, junk_event, lost_plants, lost_reports, mixed, plant, quick_site,
+    sheet_bytes, site, spoilt_plant, swept_event, swept_grid, swept_plant, BookDamage, Rng,
+    SheetDamage, Spoil,
 };
 
 /// An input; frames hold the bytes lent.
@@ -57,8 +58,8 @@ impl Case {
     }
 
     /// The cases that do not depend on a seed: books of every length, a grid of events and
-    /// frames of every length on a few plants, swept counters at every kind, and every value
-    /// of every flag.
+    /// frames of every length on a few plants, swept counters at every kind, lost booms at
+    /// every kind that has them, and every value of every flag and of every boom report.
     pub fn fixed() -> impl Iterator<Item = Case> {
         let books = all_lengths().into_iter().map(|book| Case::Read { book });
         let rng = &mut Rng::new(0);
@@ -68,10 +69,14 @@ impl Case {
             let events = events.map(move |event| Case::Event { plant, event });
             events.chain(all_frames(&plant))
         });
-        let swept = swept_grid().into_iter();
-        let swept = swept.map(|(plant, event)| Case::Event { plant, event });
-        let grids = grids.chain(swept);
-        books.chain(grids).chain(every_flag().flat_map(calls))
+        let events = swept_grid().into_iter().chain(lost_reports());
+        let events = events.map(|(plant, event)| Case::Event { plant, event });
+        let lost = lost_plants().into_iter().flat_map(|plant| {
+            let [tick, draw, _] = calls(plant);
+            [tick, draw]
+        });
+        let bytes = every_flag().chain(every_boom()).flat_map(calls);
+        books.chain(grids).chain(events).chain(lost).chain(bytes)
     }
 
     pub fn name(&self) -> &'static str {

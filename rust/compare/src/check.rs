@@ -27,11 +27,11 @@ impl Pair<'_> {
             Case::Read { book } => self.read(book, seen),
             Case::Write { site, frame } => self.write(site, frame, seen),
             Case::Event { plant, event } => {
-                seen.flags(Call::Event, plant);
+                seen.handed(Call::Event, plant);
                 self.event(&mut plant.clone(), *event, seen).map(|_| ())
             }
             Case::Draw { plant, frame } => {
-                seen.flags(Call::Draw, plant);
+                seen.handed(Call::Draw, plant);
                 self.lent(plant, frame, seen)
             }
             Case::Run {
@@ -39,7 +39,7 @@ impl Pair<'_> {
                 sheet,
                 frame,
             } => {
-                seen.flags(Call::Run, plant);
+                seen.handed(Call::Run, plant);
                 self.run(plant, sheet, frame, seen)
             }
             Case::Session { site, events } => self.session(site, events, seen),

@@ -1,9 +1,10 @@
-//! The train account, the passage rule and the opening tick over generated sessions, and
-//! document 02, T-01, that an unsure track keeps its crossing out of normal position: with
-//! reasons and trains worked out from the list of events alone.
+//! The train account, the passage rule and the opening tick over generated sessions, with lost
+//! reports in their lists (document 02, T-02), and document 02, T-01, that an unsure track keeps
+//! its crossing out of normal position: with reasons and trains worked out from the list of
+//! events alone.
 
 use compare::case::Case;
-use engine::{draw, event, panel_len, Entry, Plant, Site, PANEL};
+use engine::{boom, draw, event, panel_len, Entry, Plant, Site, PANEL};
 
 /// What the list says of one crossing.
 #[derive(Clone, Copy, Default)]
@@ -20,6 +21,8 @@ struct Account {
     /// Ticks for which a reason has stood unbroken.
     stood: u32,
     booms: [u8; 4],
+    /// A boom was reported lost.
+    lost: bool,
     red_dead: bool,
 }
 
@@ -81,7 +84,7 @@ impl Account {
             3 | 4 => self.holds[usize::from(code) - 3] = value == 1,
             5 => self.set_route(place, value == 1),
             7 => self.countdown = 270,
-            8 => self.booms[place] = value,
+            8 => self.report(place, value),
             9 if place == 1 => self.red_dead = value == 0,
             _ => {}
         }
@@ -90,12 +93,19 @@ impl Account {
         }
     }
 
+    fn report(&mut self, boom: usize, value: u8) {
+        self.booms[boom] = value;
+        self.lost |= value == boom::LOST;
+    }
+
     fn closed(&self, kind: u8) -> bool {
         match kind {
             1 => true,
-            2 => !self.booms[..2].contains(&0),
-            3 => self.booms[..2] == [2; 2],
-            _ => self.booms == [2; 4],
+            2 => self.booms[..2]
+                .iter()
+                .all(|b| [boom::MOVING, boom::DOWN].contains(b)),
+            3 => self.booms[..2] == [boom::DOWN; 2],
+            _ => self.booms == [boom::DOWN; 4],
         }
     }
 }
@@ -113,8 +123,8 @@ fn play(accounts: &mut [Account; 8], site: &Site, e: [u8; 4]) {
     }
 }
 
-/// The parts at one crossing after the list.
-fn hold(account: &Account, plant: &Plant, i: usize, panel: &[u8]) {
+/// The parts at one crossing after the list; whether its signals let trains pass.
+fn hold(account: &Account, plant: &Plant, i: usize, panel: &[u8]) -> bool {
     let (entry, record) = (&plant.site.entries[i], &plant.crossings[i]);
     let trains = record.calling.iter().chain(&record.waiting);
     let there: u32 = trains.map(|t| u32::from(*t)).sum();
@@ -123,13 +133,14 @@ fn hold(account: &Account, plant: &Plant, i: usize, panel: &[u8]) {
     if account.is_unsure() {
         assert_eq!(panel[9] & 1, 0);
     }
-    if panel[6] == 2 || panel[8] != 0 {
+    let passes = panel[6] == 2 || panel[8] != 0;
+    if passes {
         assert!(account.reason() && account.closed(entry.kind) && !account.red_dead);
         assert!(account.stood >= u32::from(entry.pre + entry.gap));
     }
     if !account.reason() {
         assert_eq!(panel[4..6], [0, 0]);
-        if account.booms == [0; 4] {
+        if account.booms == [boom::UP; 4] {
             let mut after = *plant;
             assert_eq!(event(&mut after, [0; 4]).0, 0);
             let mut panel = vec![0; panel_len(plant.site.n)];
@@ -137,9 +148,11 @@ fn hold(account: &Account, plant: &Plant, i: usize, panel: &[u8]) {
             assert_eq!(panel[PANEL * i + 9] & 1, 1);
         }
     }
+    passes
 }
 
-fn session(site: &Site, events: &[[u8; 4]]) {
+/// How often trains may pass at a crossing after a lost report, by kind.
+fn session(site: &Site, events: &[[u8; 4]], after_lost: &mut [u32; 5]) {
     let mut plant = Plant::fresh(site);
     let mut accounts = [Account::default(); 8];
     let mut panel = vec![0; panel_len(site.n)];
@@ -152,7 +165,9 @@ fn session(site: &Site, events: &[[u8; 4]]) {
         answered += written_off;
         assert_eq!(draw(&plant, &mut panel), 0);
         for (i, bytes) in panel.chunks_exact(PANEL).enumerate() {
-            hold(&accounts[i], &plant, i, bytes);
+            if hold(&accounts[i], &plant, i, bytes) && accounts[i].lost {
+                after_lost[usize::from(site.entries[i].kind)] += 1;
+            }
         }
     }
     let written_off: u32 = accounts.iter().map(|a| a.written_off).sum();
@@ -161,10 +176,12 @@ fn session(site: &Site, events: &[[u8; 4]]) {
 
 #[test]
 fn the_parts_hold_after_every_event() {
+    let mut after_lost = [0; 5];
     for index in 0..1500 {
         let Case::Session { site, events } = Case::session(9, index) else {
             panic!("not a session");
         };
-        session(&site, &events);
+        session(&site, &events, &mut after_lost);
     }
+    assert!(after_lost[2..].iter().all(|count| *count > 0));
 }

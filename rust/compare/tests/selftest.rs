@@ -15,7 +15,7 @@ const SESSIONS: u64 = 400;
 /// Faults that no list of events from a fresh plant can show: in the lent frames, in the
 /// order of refusals of a book, in spoilt plants, a repeated hold, since a hold stands in the
 /// way of a running countdown, and normal position with an unsure track, which is never reached.
-const NOT_FROM_FRESH: [&str; 20] = [
+const NOT_FROM_FRESH: [&str; 22] = [
     "book_any_gap",
     "book_frame_first",
     "book_length_first",
@@ -29,8 +29,10 @@ const NOT_FROM_FRESH: [&str; 20] = [
     "range_flags_past_n",
     "range_flags_signed",
     "range_lacking_boom",
+    "range_lacking_boom_lost",
     "range_lamps_past_n",
     "range_out",
+    "range_report_4",
     "range_unsure_above_1",
     "range_unsure_lacking",
     "range_unsure_past_n",

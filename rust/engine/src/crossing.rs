@@ -34,10 +34,12 @@ pub fn booms_down(record: &Crossing, entry: &Entry) -> bool {
     booms.iter().all(|b| *b == boom::DOWN)
 }
 
-/// All ordered down, road red whole, booms as the kind demands.
+/// All ordered down, road red whole, every boom down; of half booms every one moving or down
+/// (document 02, T-02).
 pub fn is_secured(record: &Crossing, entry: &Entry) -> bool {
+    let half_closed = |b: &u8| matches!(*b, boom::MOVING | boom::DOWN);
     let closed = match entry.kind {
-        2 => record.booms[..2].iter().all(|b| *b != boom::UP),
+        2 => record.booms[..2].iter().all(half_closed),
         _ => booms_down(record, entry),
     };
     record.phase == phase::ALL_DOWN && record.lamps[1] != 0 && closed
@@ -84,7 +86,7 @@ pub fn run_timer(record: &mut Crossing, entry: &Entry) {
     }
 }
 
-/// One step by the phase on entry.
+/// One step by the phase on entry. Raising waits on a lost boom (document 02, T-02).
 #[inline]
 pub fn settle(record: &mut Crossing, entry: &Entry) {
     let reason = has_reason(record);

@@ -2,7 +2,7 @@
 
 use super::crossing::{count_down, count_out, is_held, run_timer, settle};
 use super::range::in_range;
-use super::types::{number, Crossing, Entry, Plant};
+use super::types::{boom, number, Crossing, Entry, Plant};
 
 const RELEASE: u16 = 270;
 const FULL: u16 = 255;
@@ -78,7 +78,7 @@ fn limits(entry: &Entry, code: u8) -> (u8, u8) {
         code::STRIKE_IN | code::PASSAGE => (entry.tracks, 1),
         code::KIOSK_HOLD | code::OPERATOR_HOLD => (1, 2),
         code::ROUTE | code::APPROACH => (entry.tracks, 2),
-        code::BOOM_REPORT => (entry.booms(), 3),
+        code::BOOM_REPORT => (entry.booms(), boom::LOST + 1),
         code::LAMP_REPORT => (5, 2),
         _ => (1, 1),
     }

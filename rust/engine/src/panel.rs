@@ -66,6 +66,7 @@ fn panel_of(record: &Crossing, entry: &Entry, beat: u8) -> [u8; PANEL] {
         false => aspect(record.lamps[2], 1),
     };
     let boom_lamps = !normal && has_booms;
+    // With a lost boom not all are down: the bell sounds on (document 02, T-02).
     let bell = !normal && (!has_booms || !booms_down(record, entry));
     let right = has_booms && matches!(record.phase, phase::RIGHT_DOWN | phase::ALL_DOWN);
     let left = entry.kind == 4 && record.phase == phase::ALL_DOWN;

@@ -39,9 +39,10 @@ fn track_in_range(record: &Crossing, entry: &Entry, t: usize) -> bool {
     trains <= MAX_TRAINS && (t < entry.tracks.into() || free) && (entry.depends(t) || plain)
 }
 
+/// Position lost is the last report (document 02, T-02).
 fn booms_in_range(record: &Crossing, entry: &Entry) -> bool {
     let (used, past) = record.booms.split_at(entry.booms().into());
-    used.iter().all(|b| *b <= boom::DOWN) && past.iter().all(|b| *b == 0)
+    used.iter().all(|b| *b <= boom::LOST) && past.iter().all(|b| *b == 0)
 }
 
 fn phase_in_range(record: &Crossing, entry: &Entry) -> bool {

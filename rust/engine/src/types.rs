@@ -43,6 +43,8 @@ pub mod boom {
     pub const UP: u8 = 0;
     pub const MOVING: u8 = 1;
     pub const DOWN: u8 = 2;
+    /// Position lost, which is none of the others (document 02, T-02).
+    pub const LOST: u8 = 3;
 }
 
 /// Settings of one crossing.

@@ -3,10 +3,13 @@
 mod common;
 
 use common::{entry, fresh, panel, program_case, refuse, take, ticks, TICK};
+use engine::boom;
 
 const STRIKE_IN: [u8; 4] = [1, 0, 0, 0];
 const PASSAGE: [u8; 4] = [2, 0, 0, 0];
-const BOTH_UP: [[u8; 4]; 2] = [[8, 0, 0, 0], [8, 0, 1, 0]];
+const BOTH_UP: [[u8; 4]; 2] = [[8, 0, 0, boom::UP], [8, 0, 1, boom::UP]];
+const BOTH_MOVING: [[u8; 4]; 2] = [[8, 0, 0, boom::MOVING], [8, 0, 1, boom::MOVING]];
+const BOTH_DOWN: [[u8; 4]; 2] = [[8, 0, 0, boom::DOWN], [8, 0, 1, boom::DOWN]];
 const STOP: u8 = 1;
 const PASSABLE: u8 = 2;
 
@@ -26,7 +29,8 @@ fn program_case_panel() {
 #[test]
 fn program_case_one_tick_fewer() {
     let mut plant = fresh(&[entry(3, 1, 0, 2, 0)]);
-    take(&mut plant, &[STRIKE_IN, TICK, [8, 0, 0, 2], [8, 0, 1, 2]]);
+    take(&mut plant, &[STRIKE_IN, TICK]);
+    take(&mut plant, &BOTH_DOWN);
     assert_eq!(plant.crossings[0].phase, 1);
     assert_eq!(panel(&plant, 0)[6], STOP);
 }
@@ -93,12 +97,12 @@ fn release_of_lights_only() {
 fn half_booms() {
     let mut plant = fresh(&[entry(2, 1, 0, 2, 0)]);
     take(&mut plant, &[STRIKE_IN, TICK, TICK]);
-    take(&mut plant, &[[8, 0, 0, 1], [8, 0, 1, 1]]);
+    take(&mut plant, &BOTH_MOVING);
     assert_eq!(plant.crossings[0].phase, 3);
     assert_eq!(panel(&plant, 0)[6], PASSABLE);
-    for boom in 0..2 {
+    for b in 0..2 {
         let mut one_up = plant;
-        take(&mut one_up, &[[8, 0, boom, 0]]);
+        take(&mut one_up, &[[8, 0, b, boom::UP]]);
         assert_eq!(panel(&one_up, 0)[6], STOP);
     }
 }
@@ -193,7 +197,8 @@ fn trap_refusal_does_not_settle() {
 #[test]
 fn trap_stale_moving_in_warning() {
     let mut plant = fresh(&[entry(2, 1, 0, 2, 0)]);
-    take(&mut plant, &[[8, 0, 0, 1], [8, 0, 1, 1], STRIKE_IN, TICK]);
+    take(&mut plant, &BOTH_MOVING);
+    take(&mut plant, &[STRIKE_IN, TICK]);
     assert_eq!(plant.crossings[0].phase, 1);
     assert_eq!(panel(&plant, 0)[6], STOP);
     take(&mut plant, &[TICK]);

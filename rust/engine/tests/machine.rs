@@ -2,15 +2,8 @@
 
 mod common;
 
-use common::{entry, four_kinds, fresh, panel, take, ticks, TICK};
-use engine::{event, phase, Plant};
-
-fn at(plant: &Plant, crossing: usize) -> (u8, u16) {
-    (
-        plant.crossings[crossing].phase,
-        plant.crossings[crossing].timer,
-    )
-}
+use common::{at, entry, four_kinds, fresh, panel, take, ticks, TICK};
+use engine::{boom, event, phase};
 
 #[test]
 fn strike_in_by_track_and_route() {
@@ -78,10 +71,13 @@ fn every_kind_closes_in_its_order() {
 #[test]
 fn four_booms_open_from_phase_2() {
     let mut plant = four_kinds();
-    take(&mut plant, &[[1, 3, 0, 0], TICK, TICK, [8, 3, 0, 1]]);
+    take(
+        &mut plant,
+        &[[1, 3, 0, 0], TICK, TICK, [8, 3, 0, boom::MOVING]],
+    );
     take(&mut plant, &[[2, 3, 0, 0]]);
     assert_eq!(at(&plant, 3), (phase::RAISING, 0));
-    take(&mut plant, &[[8, 3, 0, 0]]);
+    take(&mut plant, &[[8, 3, 0, boom::UP]]);
     assert_eq!(at(&plant, 3), (phase::OPEN, 0));
 }
 
@@ -153,7 +149,7 @@ fn release_is_kept() {
         [3, 1, 0, 0],
         [5, 1, 1, 0],
         [6, 1, 0, 0],
-        [8, 1, 0, 1],
+        [8, 1, 0, boom::MOVING],
         [9, 1, 0, 0],
         [1, 0, 0, 0],
     ];
@@ -183,11 +179,14 @@ fn release_clears_all_tracks_of_all_due_crossings() {
 #[test]
 fn out_of_normal_is_counted_by_ticks_and_cleared_at_once() {
     let mut plant = four_kinds();
-    take(&mut plant, &[[8, 1, 1, 1], TICK, TICK, [9, 1, 0, 0]]);
+    take(
+        &mut plant,
+        &[[8, 1, 1, boom::MOVING], TICK, TICK, [9, 1, 0, 0]],
+    );
     assert_eq!(plant.crossings[1].out, 2);
     assert_eq!(plant.crossings[1].phase, phase::OPEN);
     assert_eq!(plant.crossings[0].out, 0);
-    take(&mut plant, &[[8, 1, 1, 0]]);
+    take(&mut plant, &[[8, 1, 1, boom::UP]]);
     assert_eq!(plant.crossings[1].out, 0);
 }
 
@@ -203,10 +202,10 @@ fn beat_goes_round() {
 #[test]
 fn reports_are_kept() {
     let mut plant = four_kinds();
-    for value in [2, 1, 0] {
-        for boom in 0..4 {
-            take(&mut plant, &[[8, 3, boom, value]]);
-            assert_eq!(plant.crossings[3].booms[usize::from(boom)], value);
+    for value in [boom::LOST, boom::DOWN, boom::MOVING, boom::UP] {
+        for b in 0..4 {
+            take(&mut plant, &[[8, 3, b, value]]);
+            assert_eq!(plant.crossings[3].booms[usize::from(b)], value);
         }
     }
     for value in [0, 1] {

@@ -3,7 +3,7 @@
 mod common;
 
 use common::{entry, four_kinds, fresh, panel, program_case, take, ticks, TICK};
-use engine::{draw, Plant};
+use engine::{boom, draw, Plant};
 
 /// All four kinds with a train, all ordered down, every boom down.
 fn closed() -> Plant {
@@ -14,7 +14,7 @@ fn closed() -> Plant {
     ticks(&mut plant, 5);
     for (c, booms) in [(1, 2), (2, 2), (3, 4)] {
         for b in 0..booms {
-            take(&mut plant, &[[8, c, b, 2]]);
+            take(&mut plant, &[[8, c, b, boom::DOWN]]);
         }
     }
     plant
@@ -85,9 +85,9 @@ fn secured_and_released_go_by_secured_alone() {
         &mut plant,
         &[[5, 0, 1, 1], [5, 0, 2, 1], [1, 0, 1, 0], TICK],
     );
-    take(&mut plant, &[[8, 0, 0, 2]]);
+    take(&mut plant, &[[8, 0, 0, boom::DOWN]]);
     assert_eq!(panel(&plant, 0)[8], 0);
-    take(&mut plant, &[[8, 0, 1, 2], [9, 0, 3, 0]]);
+    take(&mut plant, &[[8, 0, 1, boom::DOWN], [9, 0, 3, 0]]);
     let bytes = panel(&plant, 0);
     assert_eq!(bytes[6..10], [0, 1, 0b110, 2]);
     take(&mut plant, &[[5, 0, 1, 0]]);
@@ -97,9 +97,9 @@ fn secured_and_released_go_by_secured_alone() {
 #[test]
 fn bell_is_silent_whenever_all_booms_are_down() {
     let mut plant = four_kinds();
-    take(&mut plant, &[[8, 1, 0, 2]]);
+    take(&mut plant, &[[8, 1, 0, boom::DOWN]]);
     assert_eq!(panel(&plant, 1)[2..4], [1, 1]);
-    take(&mut plant, &[[8, 1, 1, 2]]);
+    take(&mut plant, &[[8, 1, 1, boom::DOWN]]);
     assert_eq!(panel(&plant, 1)[2..4], [0, 1]);
     assert_eq!(plant.crossings[1].phase, 0);
     assert_eq!(panel(&plant, 1)[0], 2);
@@ -109,15 +109,19 @@ fn bell_is_silent_whenever_all_booms_are_down() {
 #[test]
 fn secured_by_kind() {
     let plant = closed();
-    for boom in 0..4u8 {
-        for value in 0..=2 {
+    let secure = |c: u8| match c {
+        1 => vec![boom::MOVING, boom::DOWN],
+        _ => vec![boom::DOWN],
+    };
+    for b in 0..4u8 {
+        for value in boom::UP..=boom::LOST {
             for c in 1..4u8 {
-                if c < 3 && boom > 1 {
+                if c < 3 && b > 1 {
                     continue;
                 }
                 let mut changed = plant;
-                take(&mut changed, &[[8, c, boom, value]]);
-                let secured = if c == 1 { value > 0 } else { value == 2 };
+                take(&mut changed, &[[8, c, b, value]]);
+                let secured = secure(c).contains(&value);
                 let bytes = panel(&changed, c.into());
                 assert_eq!(bytes[9] & 2 == 2, secured);
                 assert_eq!(bytes[6], if secured { 2 } else { 1 });

@@ -3,6 +3,7 @@
 mod common;
 
 use common::{entry, four_kinds, fresh, refuse, take, TICK};
+use engine::boom;
 
 #[test]
 fn unknown_code() {
@@ -50,7 +51,7 @@ fn unknown_place() {
 #[test]
 fn unknown_value() {
     let plant = four_kinds();
-    let values = [1, 1, 1, 2, 2, 2, 2, 1, 3, 2];
+    let values = [1, 1, 1, 2, 2, 2, 2, 1, boom::LOST + 1, 2];
     for (code, known) in (0..).zip(values) {
         let crossing = if code == 0 { 0 } else { 3 };
         for value in known..=255 {

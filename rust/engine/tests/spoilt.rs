@@ -3,7 +3,7 @@
 mod common;
 
 use common::{entry, four_kinds, fresh};
-use engine::{in_range, Crossing, Entry, Plant};
+use engine::{boom, in_range, Crossing, Entry, Plant};
 
 fn spoilt(plant: &Plant, change: impl FnOnce(&mut Plant)) {
     let mut changed = *plant;
@@ -73,12 +73,10 @@ fn tracks() {
 fn booms() {
     let plant = four_kinds();
     for (crossing, count) in [0, 2, 2, 4].into_iter().enumerate() {
-        for boom in 0..4 {
-            let value = if boom < count { 3 } else { 1 };
-            spoilt(&plant, |p| p.crossings[crossing].booms[boom] = value);
-            if boom < count {
-                sound(&plant, |p| p.crossings[crossing].booms[boom] = 2);
-            }
+        for b in 0..4 {
+            let last = if b < count { boom::LOST } else { 0 };
+            sound(&plant, |p| p.crossings[crossing].booms[b] = last);
+            spoilt(&plant, |p| p.crossings[crossing].booms[b] = last + 1);
         }
     }
 }

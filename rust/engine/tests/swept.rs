@@ -3,7 +3,7 @@
 mod common;
 
 use common::{entry, four_kinds, fresh, panel, refuse, take, ticks, TICK};
-use engine::{event, phase, Plant};
+use engine::{boom, event, phase, Plant};
 
 const RELEASE: [u8; 4] = [7, 0, 0, 0];
 
@@ -77,7 +77,7 @@ fn a_swept_strike_in_settles_its_crossing() {
         assert_eq!(plant.crossings[0].phase, phase::WARNING);
         plant.crossings[0].phase = phase::RAISING;
         plant.crossings[0].timer = 0;
-        plant.crossings[0].booms[1] = 1;
+        plant.crossings[0].booms[1] = boom::MOVING;
         take(&mut plant, &[[1, 0, 0, 0]]);
         assert_eq!(plant.crossings[0].phase, phase::RAISING);
     }
@@ -98,8 +98,8 @@ fn what_leaves_the_flag() {
         [6, 3, 1, 1],
         [6, 3, 1, 0],
         [7, 3, 0, 0],
-        [8, 3, 2, 2],
-        [8, 3, 2, 0],
+        [8, 3, 2, boom::DOWN],
+        [8, 3, 2, boom::UP],
         [9, 3, 1, 0],
         [9, 3, 1, 1],
         TICK,

@@ -1,8 +1,10 @@
 //! Counters of what a set of inputs reached.
 
+use crate::booms::BoomBytes;
 use crate::flags::FlagBytes;
+use crate::lost_met::LostCounts;
 use crate::unsure::UnsureCounts;
-use engine::{code, number, phase, Crossing, Plant, PANEL};
+use engine::{boom, code, number, phase, Crossing, Plant, PANEL};
 
 /// The five calls.
 #[derive(Clone, Copy, PartialEq, Debug)]
@@ -26,7 +28,9 @@ pub struct Coverage {
     pub(crate) written_off: [u64; 3],
     pub(crate) panels: u64,
     pub(crate) flags: [FlagBytes; 5],
+    pub(crate) booms: [BoomBytes; 5],
     pub(crate) unsure: UnsureCounts,
+    pub(crate) lost: LostCounts,
 }
 
 /// How often a byte had each value.
@@ -53,7 +57,7 @@ impl ByteCounts {
 
 /// 0 slow, 1 fast, 2 steady.
 fn rhythm(record: &Crossing) -> usize {
-    let normal = record.phase == phase::OPEN && record.booms == [0; 4];
+    let normal = record.phase == phase::OPEN && record.booms == [boom::UP; 4];
     match (record.lamps[4], normal) {
         (0, _) => 2,
         (_, true) => 0,
@@ -72,8 +76,9 @@ impl Coverage {
     }
 
     /// A call was handed this plant.
-    pub fn flags(&mut self, call: Call, plant: &Plant) {
+    pub fn handed(&mut self, call: Call, plant: &Plant) {
         self.flags[call as usize].mark(plant);
+        self.booms[call as usize].mark(plant);
     }
 
     /// How many events were put to the engine one by one.
@@ -87,6 +92,10 @@ impl Coverage {
         self.call(Call::Event, number);
         let code = usize::from(e[0].min(code::LAMP_REPORT + 1));
         self.codes[code][usize::from(number & 15)] += 1;
+        if (e[0], number) == (code::BOOM_REPORT, number::UNKNOWN_VALUE) {
+            self.lost
+                .refused(&after.site.entries[usize::from(e[1])], e[3]);
+        }
         if number != number::TAKEN {
             return;
         }
@@ -103,19 +112,22 @@ impl Coverage {
             self.phases[usize::from(entry.kind)][usize::from(to.phase)] += 1;
             self.moves[usize::from(from.phase)][usize::from(to.phase)] += 1;
             self.unsure.event(entry, e, from, to);
+            self.lost.event(entry, e, from, to);
         }
     }
 
     /// A panel drawn.
     pub fn panel(&mut self, plant: &Plant, panel: &[u8]) {
         self.panels += 1;
-        for (record, bytes) in plant.crossings.iter().zip(panel.chunks_exact(PANEL)) {
+        let records = plant.crossings.iter().zip(&plant.site.entries);
+        for ((record, entry), bytes) in records.zip(panel.chunks_exact(PANEL)) {
             for (counts, byte) in self.bytes.iter_mut().zip(bytes) {
                 counts.count(*byte);
             }
             let shown = [bytes[0], bytes[3], bytes[6], bytes[7]].map(|aspect| aspect != 0);
             let shown = (0..4).map(|s| u8::from(shown[s]) << s).sum::<u8>();
             self.signals[rhythm(record)].count(shown << 4 | bytes[1] & 15);
+            self.lost.panel(entry, record, bytes[6] == 1, bytes[2] == 1);
         }
     }
 
@@ -132,7 +144,10 @@ impl Coverage {
         bytes.chain(signals).for_each(|(a, b)| sums(&mut a.0, &b.0));
         let flags = self.flags.iter_mut().zip(&other.flags);
         flags.for_each(|(a, b)| a.add(b));
+        let booms = self.booms.iter_mut().zip(&other.booms);
+        booms.for_each(|(a, b)| a.add(b));
         self.unsure.add(&other.unsure);
+        self.lost.add(&other.lost);
         self.panels += other.panels;
     }
 }

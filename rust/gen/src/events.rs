@@ -1,5 +1,6 @@
 //! Single events for a plant: known ones, and ones with junk in a field.
 
+use crate::plants::report;
 use crate::rng::Rng;
 use engine::{code, Plant};
 
@@ -23,7 +24,7 @@ pub(crate) fn event_at(rng: &mut Rng, plant: &Plant, crossing: u8) -> [u8; 4] {
         code::TIME_RELEASE => [code, crossing, 0, 0],
         code::BOOM_REPORT => {
             let boom = rng.below(entry.booms().into()) as u8;
-            [code, crossing, boom, rng.below(3) as u8]
+            [code, crossing, boom, report(rng)]
         }
         code::LAMP_REPORT => [code, crossing, rng.below(5) as u8, on],
         _ => [code::TICK, 0, 0, 0],
@@ -54,7 +55,7 @@ pub fn event_grid() -> Vec<[u8; 4]> {
     for code in upto(11) {
         for crossing in upto(8) {
             for place in upto(5) {
-                events.extend(upto(3).map(|value| [code, crossing, place, value]));
+                events.extend(upto(4).map(|value| [code, crossing, place, value]));
             }
         }
     }

@@ -1,5 +1,6 @@
 //! The flags of a crossing record, and every value that their bytes can have.
 
+use crate::bytes::ByteSets;
 use crate::plants::crossing;
 use crate::rng::Rng;
 use engine::{Crossing, Entry, Plant, Site};
@@ -25,12 +26,13 @@ fn set_flag(c: &mut Crossing, flag: usize, value: u8) {
     }
 }
 
-/// A plant of `n` crossings with four dependent tracks each, so that every flag may be 1.
-fn base(n: u8) -> Plant {
+/// A plant of `n` crossings with four dependent tracks each, so that every flag may be 1, and of
+/// every kind in turn.
+pub(crate) fn base(n: u8, turn: u8) -> Plant {
     let rng = &mut Rng::new(n.into());
     let mut plant = Plant::fresh(&Site { n, ..Site::ZERO });
     for i in 0..n {
-        let kind = 1 + i % 4;
+        let kind = 1 + (i + turn) % 4;
         let entry = Entry {
             kind,
             tracks: 4,
@@ -47,7 +49,7 @@ fn base(n: u8) -> Plant {
 /// Every value of every flag of every crossing, with all eight crossings used and with one.
 pub fn every_flag() -> impl Iterator<Item = Plant> {
     [8, 1].into_iter().flat_map(|n| {
-        let base = base(n);
+        let base = base(n, 0);
         let places = (0..8).flat_map(|i| (0..FLAGS).map(move |flag| (i, flag)));
         let bytes = places.flat_map(|place| (0..=255).map(move |value| (place, value)));
         bytes.map(move |((i, flag), value)| {
@@ -58,14 +60,13 @@ pub fn every_flag() -> impl Iterator<Item = Plant> {
     })
 }
 
-/// Which bytes a call was handed as flags: a bit for each value of each flag of each
-/// crossing, apart for crossings used and unused.
+/// Which bytes a call was handed as flags: at crossings unused and used.
 #[derive(Clone)]
-pub(crate) struct FlagBytes([Vec<[u64; 4]>; 2]);
+pub(crate) struct FlagBytes([ByteSets; 2]);
 
 impl Default for FlagBytes {
     fn default() -> FlagBytes {
-        FlagBytes([0, 1].map(|_| vec![[0; 4]; 8 * FLAGS]))
+        FlagBytes([(); 2].map(|_| ByteSets::new(8 * FLAGS)))
     }
 }
 
@@ -80,26 +81,19 @@ impl FlagBytes {
         }
         for (i, c) in plant.crossings.iter().enumerate() {
             let used = usize::from(i < usize::from(plant.site.n));
-            let places = &mut self.0[used][FLAGS * i..];
-            for (place, flag) in places.iter_mut().zip(flags(c)) {
-                place[usize::from(flag / 64)] |= 1 << (flag % 64);
+            for (byte, flag) in (FLAGS * i..).zip(flags(c)) {
+                self.0[used].mark(byte, *flag);
             }
         }
     }
 
     /// How many were handed over, at crossings unused and used.
     pub(crate) fn counts(&self) -> [u64; 2] {
-        let ones = |places: &Vec<[u64; 4]>| {
-            let words = places.as_flattened().iter();
-            words.map(|word| u64::from(word.count_ones())).sum()
-        };
-        [ones(&self.0[0]), ones(&self.0[1])]
+        self.0.each_ref().map(ByteSets::count)
     }
 
     pub(crate) fn add(&mut self, other: &FlagBytes) {
-        for (mine, other) in self.0.iter_mut().zip(&other.0) {
-            let words = mine.as_flattened_mut().iter_mut();
-            words.zip(other.as_flattened()).for_each(|(a, b)| *a |= b);
-        }
+        let sets = self.0.iter_mut().zip(&other.0);
+        sets.for_each(|(mine, other)| mine.add(other));
     }
 }

@@ -1,7 +1,9 @@
 //! What a set of inputs should reach, and the table of it.
 
+use crate::booms::BoomBytes;
 use crate::coverage::{Call, Coverage};
 use crate::flags::FlagBytes;
+use crate::lost_met::LostMet;
 use crate::unsure::Met;
 use engine::{code, number, PANEL};
 use std::fmt::Write;
@@ -37,6 +39,9 @@ const MOVES: [(u8, u8); 13] = [
 ];
 /// The calls that are handed a plant.
 const WITH_PLANT: [Call; 3] = [Call::Event, Call::Draw, Call::Run];
+/// The crossings that have their bytes counted apart: of flags, and of boom reports.
+const USES: [&str; 2] = ["unused", "used"];
+const KINDS: [&str; 5] = ["unused", "kind 1", "kind 2", "kind 3", "kind 4"];
 
 /// The refusals an event of this code can meet, beside 6, 7 and 8; 10 stands for the rest.
 fn own_refusals(code: usize) -> &'static [u8] {
@@ -98,14 +103,33 @@ impl Goal {
     }
 }
 
+/// How many of all values a call was handed at these crossings.
+fn handed(
+    call: Call,
+    group: &'static str,
+    crossings: &[&str],
+    counts: &[u64],
+    all: &[u64],
+) -> Vec<Goal> {
+    let counts = counts.iter().zip(all);
+    let goal = |(crossings, (count, all)): (&&str, (&u64, &u64))| Goal {
+        group,
+        name: format!("{} {crossings}", CALLS[call as usize]),
+        count: *count,
+        needed: *all,
+    };
+    crossings.iter().zip(counts).map(goal).collect()
+}
+
 impl Coverage {
     fn goals(&self) -> Vec<Goal> {
         let mut goals = self.number_goals();
         goals.extend(self.phase_goals());
         goals.extend(self.unsure_goals());
+        goals.extend(self.lost_goals());
         goals.extend(self.rhythm_goals());
         goals.extend(self.bit_goals());
-        goals.extend(self.flag_goals());
+        goals.extend(self.byte_goals());
         goals
     }
 
@@ -173,6 +197,32 @@ impl Coverage {
         goals
     }
 
+    /// Lost booms at every kind that has them.
+    fn lost_goals(&self) -> Vec<Goal> {
+        let mut goals = Vec::new();
+        let lost = &self.lost;
+        let mut goal = |group, kind: usize, name: &str, count| {
+            goals.push(Goal::once(group, format!("{kind}:{name}"), count));
+        };
+        for (kind, booms) in [(2, 2), (3, 2), (4, 4)] {
+            for p in kind_phases(kind) {
+                let name = &p.to_string();
+                goal("lost, kind:phase", kind, name, lost.phase(kind, *p));
+                goal("lost bell, kind:phase", kind, name, lost.bell(kind, *p));
+            }
+            for b in 0..booms {
+                let name = &b.to_string();
+                goal("lost alone, kind:boom", kind, name, lost.stop(kind, b));
+            }
+            for (met, group, name) in LostMet::ALL {
+                goal(group, kind, name, lost.met(met, kind));
+            }
+        }
+        // One line of the table for a group.
+        goals.sort_by_key(|goal| goal.group);
+        goals
+    }
+
     fn rhythm_goals(&self) -> Vec<Goal> {
         let mut goals = Vec::new();
         for (s, signal) in SIGNALS.into_iter().enumerate() {
@@ -211,21 +261,17 @@ impl Coverage {
         goals
     }
 
-    /// Every byte as every flag of every crossing, in plants handed to a call.
-    fn flag_goals(&self) -> Vec<Goal> {
-        let mut goals = Vec::new();
-        for call in WITH_PLANT {
+    /// Every byte as every flag and as every boom report, in plants handed to a call.
+    fn byte_goals(&self) -> Vec<Goal> {
+        let flags = WITH_PLANT.map(|call| {
             let counts = self.flags[call as usize].counts();
-            for (i, crossings) in ["unused", "used"].into_iter().enumerate() {
-                goals.push(Goal {
-                    group: "flag bytes",
-                    name: format!("{} {crossings}", CALLS[call as usize]),
-                    count: counts[i],
-                    needed: FlagBytes::ALL[i],
-                });
-            }
-        }
-        goals
+            handed(call, "flag bytes", &USES, &counts, &FlagBytes::ALL)
+        });
+        let booms = WITH_PLANT.map(|call| {
+            let counts = self.booms[call as usize].counts();
+            handed(call, "boom bytes", &KINDS, &counts, &BoomBytes::ALL)
+        });
+        flags.into_iter().chain(booms).flatten().collect()
     }
 
     /// The things not reached.

@@ -3,10 +3,14 @@
 //! Everything follows from the seed alone, so a case is the same on every machine.
 
 mod books;
+mod booms;
+mod bytes;
 mod coverage;
 mod events;
 mod flags;
 mod goals;
+mod lost;
+mod lost_met;
 mod plants;
 mod rng;
 mod sheets;
@@ -18,9 +22,11 @@ mod unsure;
 pub use books::{
     all_lengths, book, book_bytes, damaged_book, entry, frame, quick_site, site, BookDamage,
 };
+pub use booms::every_boom;
 pub use coverage::{Call, Coverage};
 pub use events::{event, event_grid, junk_event};
 pub use flags::{every_flag, flags, FLAGS};
+pub use lost::{lost_plants, lost_reports};
 pub use plants::plant;
 pub use rng::Rng;
 pub use sheets::{damaged_sheet, sheet_bytes, sheet_events, SheetDamage};

@@ -65,21 +65,23 @@ pub(crate) fn crossing(rng: &mut Rng, entry: &Entry) -> Crossing {
     c
 }
 
+/// One of the reports of a boom.
+pub(crate) fn report(rng: &mut Rng) -> u8 {
+    rng.within(boom::UP.into()..=boom::LOST.into()) as u8
+}
+
+/// All reports alike, or each as it comes; sometimes one more as it comes.
 fn set_booms(rng: &mut Rng, c: &mut Crossing, entry: &Entry) {
-    let all = rng.below(5) as u8;
-    for b in &mut c.booms[..entry.booms().into()] {
+    let all = rng.below(6) as u8;
+    let booms = &mut c.booms[..entry.booms().into()];
+    for b in &mut *booms {
         *b = match all {
-            boom::UP..=boom::DOWN => all,
-            _ => rng.below(3) as u8,
+            boom::UP..=boom::LOST => all,
+            _ => report(rng),
         };
     }
-    if rng.once_in(4) {
-        let b = rng.below(entry.booms().into()) as usize;
-        c.booms[b] = if entry.booms() > 0 {
-            rng.below(3) as u8
-        } else {
-            0
-        };
+    if rng.once_in(4) && !booms.is_empty() {
+        booms[rng.below(entry.booms().into()) as usize] = report(rng);
     }
 }
 

@@ -3,7 +3,7 @@
 use crate::books::entry;
 use crate::plants::{crossing, plant};
 use crate::rng::Rng;
-use engine::{phase, Crossing, Entry, Plant, Site};
+use engine::{boom, phase, Crossing, Entry, Plant, Site};
 
 macro_rules! spoils {
     ($($name:ident)*) => {
@@ -154,9 +154,9 @@ fn spoil_tracks(rng: &mut Rng, e: &Entry, c: &mut Crossing, spoil: Spoil) {
         Spoil::UnsureOffTrack => c.unsure[off] = byte(rng, 1),
         Spoil::BoomReport => {
             let b = rng.below(e.booms().into()) as usize;
-            c.booms[b] = rng.pick(&[3, 4, 255]);
+            c.booms[b] = rng.pick(&[boom::LOST + 1, 5, 255]);
         }
-        Spoil::LackingBoom => c.booms[lacking] = rng.pick(&[1, 2, 255]),
+        Spoil::LackingBoom => c.booms[lacking] = rng.pick(&[1, 2, boom::LOST, 255]),
         Spoil::Countdown => c.countdown = rng.pick(&[271, 526, 65535]),
         Spoil::Out => c.out = rng.pick(&[902, 1024, 65535]),
         _ => {}
@@ -203,7 +203,7 @@ fn spoil_past(rng: &mut Rng, c: &mut Crossing, spoil: Spoil) {
         Spoil::PastRoute => c.route[i] = byte(rng, 1),
         Spoil::PastOccupied => c.occupied[i] = byte(rng, 1),
         Spoil::PastUnsure => c.unsure[i] = byte(rng, 1),
-        Spoil::PastBooms => c.booms[i] = rng.pick(&[1, 2, 255]),
+        Spoil::PastBooms => c.booms[i] = rng.pick(&[1, 2, boom::LOST, 255]),
         Spoil::PastLamps if rng.flag() => c.lamps = [1; 5],
         Spoil::PastLamps => c.lamps[rng.below(5) as usize] = byte(rng, 1),
         Spoil::PastKiosk => c.kiosk = byte(rng, 1),

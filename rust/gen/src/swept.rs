@@ -4,7 +4,7 @@
 use crate::events::event_at;
 use crate::plants::{crossing, plant};
 use crate::rng::Rng;
-use engine::{code, phase, Crossing, Entry, Plant, Site};
+use engine::{boom, code, phase, Crossing, Entry, Plant, Site};
 
 /// A plant in range with a swept crossing, and the number of that crossing.
 pub fn swept_plant(rng: &mut Rng) -> (Plant, u8) {
@@ -85,7 +85,7 @@ const EVENTS: [[u8; 4]; 12] = [
     [code::ROUTE, 0, 0, 0],
     [code::ROUTE, 0, 0, 1],
     [code::TIME_RELEASE, 0, 0, 0],
-    [code::BOOM_REPORT, 0, 0, 2],
+    [code::BOOM_REPORT, 0, 0, boom::DOWN],
 ];
 
 /// Each of the events on plants of one crossing and two tracks, track 0 plain or dependent, of
@@ -109,7 +109,7 @@ pub fn swept_grid() -> Vec<(Plant, [u8; 4])> {
     plants.into_iter().flat_map(each).collect()
 }
 
-fn vary(plants: Vec<Plant>, ways: impl FnMut(Plant) -> Vec<Plant>) -> Vec<Plant> {
+pub(crate) fn vary(plants: Vec<Plant>, ways: impl FnMut(Plant) -> Vec<Plant>) -> Vec<Plant> {
     plants.into_iter().flat_map(ways).collect()
 }
 
@@ -131,7 +131,7 @@ fn with_unsure(mut plant: Plant, flags: [u8; 4]) -> Plant {
 }
 
 /// The phases of every kind, with track 0 plain and dependent; F is 2 and G is 1.
-fn phases() -> Vec<Plant> {
+pub(crate) fn phases() -> Vec<Plant> {
     let mut plants = Vec::new();
     for (kind, mask) in (1..=4).flat_map(|kind| [(kind, 0), (kind, 1)]) {
         let mut site = Site { n: 1, ..Site::ZERO };

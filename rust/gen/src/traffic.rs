@@ -1,11 +1,14 @@
 //! Lists of events: coherent traffic, in which booms follow their orders, time
 //! releases run to their end and detectors sweep their counters, mixed with junk.
 
+mod drives;
+
 use crate::events::{event, junk_event};
+use crate::plants::report;
 use crate::rng::Rng;
 use crate::swept::{fullest, trains};
 use engine::events::apply;
-use engine::{boom, code, phase, Plant};
+use engine::{boom, code, Plant};
 
 const TICK: [u8; 4] = [code::TICK, 0, 0, 0];
 
@@ -67,14 +70,15 @@ impl<'a> List<'a> {
     }
 
     fn burst(&mut self) {
-        match self.rng.below(16) {
+        match self.rng.below(17) {
             0 => self.release(),
             1 => self.late_warning(),
             2 => self.sweep(),
             3 => self.long_out(),
-            4..=6 => self.stretch(&LINE),
-            7..=10 => self.stretch(&STATION),
-            11..=13 => self.stretch(&OPERATORS),
+            4 => self.lose(),
+            5..=7 => self.stretch(&LINE),
+            8..=11 => self.stretch(&STATION),
+            12..=14 => self.stretch(&OPERATORS),
             _ => self.stretch(&FAULTS),
         }
     }
@@ -127,39 +131,6 @@ impl<'a> List<'a> {
         [code::PASSAGE, c, there.unwrap_or(first), 0]
     }
 
-    fn any_boom(&mut self, c: u8) -> [u8; 4] {
-        let booms = self.plant.site.entries[usize::from(c)].booms();
-        let b = self.rng.below(booms.into()) as u8;
-        [code::BOOM_REPORT, c, b, self.rng.below(3) as u8]
-    }
-
-    /// The next report of a boom on its way, or a tick where none is.
-    fn follow(&mut self, c: u8) -> [u8; 4] {
-        let record = self.plant.crossings[usize::from(c)];
-        let booms = self.plant.site.entries[usize::from(c)].booms();
-        let target = |b: u8| match record.phase {
-            phase::ALL_DOWN => boom::DOWN,
-            phase::RIGHT_DOWN if b < 2 => boom::DOWN,
-            _ => boom::UP,
-        };
-        let first = self.rng.below(4) as u8;
-        let mut on_the_way = (0..booms).map(|b| (first + b) % booms);
-        match on_the_way.find(|b| record.booms[usize::from(*b)] != target(*b)) {
-            Some(b) if record.booms[usize::from(b)] == boom::MOVING || self.rng.once_in(3) => {
-                [code::BOOM_REPORT, c, b, target(b)]
-            }
-            Some(b) => [code::BOOM_REPORT, c, b, boom::MOVING],
-            None => TICK,
-        }
-    }
-
-    /// Every boom of the crossing reported alike.
-    fn all_booms(&mut self, c: u8, report: u8) {
-        for b in 0..self.plant.site.entries[usize::from(c)].booms() {
-            self.push([code::BOOM_REPORT, c, b, report]);
-        }
-    }
-
     fn ticks(&mut self, count: u32) {
         for _ in 0..count {
             self.push(TICK);
@@ -177,6 +148,14 @@ impl<'a> List<'a> {
             if self.plant.crossings[usize::from(c)].calling == [0; 4] {
                 self.push([code::OPERATOR_HOLD, c, 0, 0]);
             }
+            let e = self.passage(c);
+            self.push(e);
+        }
+    }
+
+    /// The passage of every train that calls.
+    fn pass_calling(&mut self, c: u8) {
+        while self.plant.crossings[usize::from(c)].calling != [0; 4] && self.has_room() {
             let e = self.passage(c);
             self.push(e);
         }
@@ -227,10 +206,7 @@ impl<'a> List<'a> {
         self.push([code::STRIKE_IN, c, t, 0]);
         self.ticks(pre + u32::from(entry.gap));
         self.all_booms(c, boom::DOWN);
-        while self.plant.crossings[usize::from(c)].calling != [0; 4] && self.has_room() {
-            let e = self.passage(c);
-            self.push(e);
-        }
+        self.pass_calling(c);
         self.push([code::STRIKE_IN, c, t, 0]);
         self.push([code::TIME_RELEASE, c, 0, 0]);
         let early = self.rng.below(3);
@@ -297,7 +273,7 @@ impl<'a> List<'a> {
             _ => {
                 let ticks = self.rng.within(1..=20);
                 self.ticks(ticks);
-                let report = self.rng.below(3) as u8;
+                let report = report(self.rng);
                 self.all_booms(c, report);
                 self.push([code::STRIKE_IN, c, t, 0]);
             }

@@ -2,9 +2,10 @@
 
 use engine::{book_len, draw, event, in_range, number, panel_len, read_book, run};
 use gen::{
-    book, book_bytes, coherent, damaged_book, damaged_sheet, every_flag, junk_event, mixed, plant,
-    quick_site, sheet_bytes, sheet_events, site, spoilt_plant, swept_event, swept_grid,
-    swept_plant, BookDamage, Call, Coverage, Rng, SheetDamage, Spoil,
+    book, book_bytes, coherent, damaged_book, damaged_sheet, every_boom, every_flag, junk_event,
+    lost_plants, lost_reports, mixed, plant, quick_site, sheet_bytes, sheet_events, site,
+    spoilt_plant, swept_event, swept_grid, swept_plant, BookDamage, Call, Coverage, Rng,
+    SheetDamage, Spoil,
 };
 
 #[test]
@@ -40,7 +41,7 @@ fn the_same_on_every_machine() {
     }
     assert_eq!(hash, SAME);
 }
-const SAME: u64 = 9204679804192416205;
+const SAME: u64 = 17641553705881278465;
 
 #[test]
 fn good_books_are_taken() {
@@ -87,7 +88,12 @@ fn plants_are_in_range() {
     }
     let grid = swept_grid();
     assert_eq!(grid.len(), 28_800);
-    assert!(grid.iter().all(|(plant, _)| in_range(plant)));
+    let reports = lost_reports();
+    assert_eq!(reports.len(), 30_720);
+    assert!(grid.iter().chain(&reports).all(|(p, _)| in_range(p)));
+    let plants = lost_plants();
+    assert_eq!(plants.len(), 5_632);
+    assert!(plants.iter().all(in_range));
 }
 
 /// Plants alone, without a list before them, meet every kind of swept strike-in and release.
@@ -102,6 +108,24 @@ fn the_swept_grid_meets_everything() {
     let left = seen.missing().into_iter();
     let mut left = left.filter(|s| s.starts_with("swept") || s.starts_with("unsure"));
     assert_eq!(left.next(), None);
+}
+
+/// Lost reports, ticks and panels, without a list before them.
+#[test]
+fn the_lost_grid_meets_everything() {
+    let mut seen = Coverage::new();
+    let ticks = lost_plants().into_iter().map(|plant| (plant, [0; 4]));
+    for (before, e) in lost_reports().into_iter().chain(ticks) {
+        let mut plant = before;
+        let answer = event(&mut plant, e);
+        seen.event(&before, e, answer, &plant);
+        let mut panel = [0; 16];
+        assert_eq!(draw(&before, &mut panel), 0);
+        seen.panel(&before, &panel);
+    }
+    let mut left = seen.missing().into_iter();
+    let of_grid = |s: &String| s.starts_with("lost") || s.starts_with("refused");
+    assert_eq!(left.find(of_grid), None);
 }
 
 #[test]
@@ -120,20 +144,46 @@ fn spoilt_plants_are_refused() {
     }
 }
 
+/// The goals with this beginning that these plants, handed to an event, leave.
+fn lacks(goals: &str, plants: &mut dyn Iterator<Item = engine::Plant>) -> Vec<String> {
+    let mut seen = Coverage::new();
+    plants.for_each(|plant| seen.handed(Call::Event, &plant));
+    let missing = seen.missing().into_iter();
+    missing.filter(|goal| goal.starts_with(goals)).collect()
+}
+
 #[test]
 fn every_flag_has_every_byte() {
-    let lacks = |plants: &mut dyn Iterator<Item = engine::Plant>| {
-        let mut seen = Coverage::new();
-        plants.for_each(|plant| seen.flags(Call::Event, &plant));
-        let missing = seen.missing().into_iter();
-        let missing = missing.filter(|goal| goal.starts_with("flag bytes event"));
-        missing.collect::<Vec<String>>()
-    };
-    assert!(lacks(&mut every_flag()).is_empty());
+    let goals = "flag bytes event";
+    assert!(lacks(goals, &mut every_flag()).is_empty());
     let mut but_one = every_flag().filter(|plant| plant.crossings[3].kiosk != 77);
     let [unused, used] = ["unused 34047 of 34048", "used 38911 of 38912"];
-    let both = [unused, used].map(|goal| format!("flag bytes event {goal}"));
-    assert_eq!(lacks(&mut but_one), both);
+    let both = [unused, used].map(|goal| format!("{goals} {goal}"));
+    assert_eq!(lacks(goals, &mut but_one), both);
+}
+
+#[test]
+fn every_boom_has_every_byte() {
+    let goals = "boom bytes event";
+    assert!(lacks(goals, &mut every_boom()).is_empty());
+    let mut but_one = every_boom().filter(|plant| plant.crossings[3].booms[2] != 77);
+    let unused = format!("{goals} unused 7167 of 7168");
+    let used = [1, 2, 3, 4].map(|kind| format!("{goals} kind {kind} 8191 of 8192"));
+    let all: Vec<String> = [unused].into_iter().chain(used).collect();
+    assert_eq!(lacks(goals, &mut but_one), all);
+}
+
+/// A boom that is there may report up to 3; of the others only 0 is in range.
+#[test]
+fn every_boom_is_in_range_by_its_crossing() {
+    for plant in every_boom() {
+        let known = (0..8).all(|i| {
+            let booms = [0, 0, 2, 2, 4][usize::from(plant.site.entries[i].kind)];
+            let (there, lacking) = plant.crossings[i].booms.split_at(booms);
+            there.iter().all(|b| *b <= 3) && lacking.iter().all(|b| *b == 0)
+        });
+        assert_eq!(in_range(&plant), known);
+    }
 }
 
 #[test]
@@ -180,5 +230,7 @@ fn traffic_reaches_its_states() {
     assert!(!left.iter().any(|s| of_events(&s)), "{left:?}");
     assert!(!left.iter().any(|s| s.starts_with("written")), "{left:?}");
     assert!(!left.iter().any(|s| s.starts_with("unsure")), "{left:?}");
+    let of_lost = |s: &&String| s.starts_with("lost,") || s.starts_with("lost alone");
+    assert!(!left.iter().any(|s| of_lost(&s)), "{left:?}");
     assert!(!left.iter().any(|s| s.starts_with("road")), "{left:?}");
 }

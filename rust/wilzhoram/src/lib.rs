@@ -21,6 +21,15 @@ pub struct Site {
     pub entries: [Entry; 8],
 }
 
+/// Boom reports: the value of an event of code 8, and what the plant holds of each boom.
+pub mod boom {
+    pub const UP: u8 = 0;
+    pub const MOVING: u8 = 1;
+    pub const DOWN: u8 = 2;
+    /// Position lost: neither up nor moving nor down (T-02).
+    pub const LOST: u8 = 3;
+}
+
 /// What the plant holds for one crossing. Each byte of route, occupied, unsure, lamps, kiosk
 /// and operator is a flag, 0 or 1; any other is out of range, number 15.
 #[repr(C)]

@@ -5,15 +5,21 @@ use borrow.Author.Needs.{needs}
 use Rattle.booms.proofs.closed.Statement.{statement}
 use Rattle.booms.proofs.closed.Tie as tie
 
-array-read-result : tie.Need-array-read-result
-array-read-result c = search needs
+array-read-half-closed : tie.Need-array-read-half-closed
+array-read-half-closed c = search needs
 
-array-read-result-2 : tie.Need-array-read-result-2
-array-read-result-2 c = search needs
+half-closed-requires : tie.Need-half-closed-requires
+half-closed-requires c κs = search needs
+
+array-read-half-closed-2 : tie.Need-array-read-half-closed-2
+array-read-half-closed-2 c = search needs
+
+half-closed-requires-2 : tie.Need-half-closed-requires-2
+half-closed-requires-2 c κs = search needs
 
 returns : tie.Need-returns
 unfolding booms-closed
-returns c = simp (c .if1 .taken, and-true)
+returns c = simp (c .half-closed2 .ensures, c .before .half-closed .ensures, c .before .before .if1 .taken, and-true)
 
 down-requires : tie.Need-down-requires
 down-requires c κs = search needs
@@ -24,4 +30,12 @@ returns-2 c = simp (c .down .ensures, ne-eqb _ _ (c .before .if1 .left))
 
 pub closed-spec : {M : Type 1} → statement M
 closed-spec =
-    tie.close (tie.spec array-read-result array-read-result-2 returns down-requires returns-2)
+    tie.close
+    (tie.spec
+    array-read-half-closed
+    half-closed-requires
+    array-read-half-closed-2
+    half-closed-requires-2
+    returns
+    down-requires
+    returns-2)

@@ -1,7 +1,11 @@
+use borrow.Author.Needs.{needs}
 use borrow.Author.Tests.{ne-eqb}
 use Rattle.machine.specs.Events.{value-limit}
 use Rattle.verdict.proofs.value_limit.Statement.{statement}
 use Rattle.verdict.proofs.value_limit.Tie as tie
+
+add-result : tie.Need-add-result
+add-result c = search needs
 
 returns : tie.Need-returns
 unfolding value-limit
@@ -33,4 +37,4 @@ returns-7 c = simp (ne-eqb _ _ (c .match .rest .1), ne-eqb _ _ (c .match .rest .
 
 pub value-limit-spec : {M : Type 1} → statement M
 value-limit-spec =
-    tie.close (tie.spec returns returns-2 returns-3 returns-4 returns-5 returns-6 returns-7)
+    tie.close (tie.spec add-result returns returns-2 returns-3 returns-4 returns-5 returns-6 returns-7)

@@ -1,7 +1,7 @@
 //! Helpers shared by the tests.
 #![allow(dead_code)]
 
-use engine::{book_len, draw, event, panel_len, Entry, Plant, Site, PANEL};
+use engine::{book_len, boom, draw, event, panel_len, Entry, Plant, Site, PANEL};
 
 pub const TICK: [u8; 4] = [0, 0, 0, 0];
 
@@ -62,6 +62,12 @@ pub fn ticks(plant: &mut Plant, count: usize) -> u32 {
     take(plant, &vec![TICK; count])
 }
 
+/// Phase and timer of one crossing.
+pub fn at(plant: &Plant, crossing: usize) -> (u8, u16) {
+    let record = &plant.crossings[crossing];
+    (record.phase, record.timer)
+}
+
 /// The panel bytes of one crossing.
 pub fn panel(plant: &Plant, crossing: usize) -> [u8; PANEL] {
     let mut bytes = vec![0xaa; panel_len(plant.site.n)];
@@ -80,7 +86,7 @@ pub fn sheet(events: &[[u8; 4]]) -> Vec<u8> {
 /// The program's case: kind 3, one plain track, F 2, a train, both booms down.
 pub fn program_case() -> Plant {
     let mut plant = fresh(&[entry(3, 1, 0, 2, 0)]);
-    let events = [[1, 0, 0, 0], TICK, TICK, [8, 0, 0, 2], [8, 0, 1, 2]];
-    take(&mut plant, &events);
+    take(&mut plant, &[[1, 0, 0, 0], TICK, TICK]);
+    take(&mut plant, &[[8, 0, 0, boom::DOWN], [8, 0, 1, boom::DOWN]]);
     plant
 }
