@@ -5,6 +5,8 @@ use machine::Plant;
 use machine::numbers;
 use verdict::Verdict;
 ghost use mathlib.Core.Path.{_≡_};
+ghost use mathlib.Core.Bool.{true};
+ghost use Rattle.machine.specs.Range.{in-range};
 ghost use Rattle.machine.specs.Events.{number};
 ghost use Rattle.machine.specs.Step.{step};
 
@@ -70,20 +72,28 @@ fn take(p: Plant, e: Event) -> Answer
     take_own(p, e)
 }
 
+// One event on a plant in range. For other crates alone.
+pub fn answer(p: Plant, e: Event) -> Answer
+    requires { ⌜ in-range p ≡ true ⌝ }
+    ensures { λ r. ⌜ r ≡ step p e ⌝ }
+{
+    let k = (e.crossing % 8) as usize;
+    let site = p.site;
+    let s = site.entries[k];
+    let c = p.crossings[k];
+    let v = verdict::judge(site.n, s, c, e);
+    match v {
+        Verdict::Take(t) => take(p, t),
+        Verdict::Refuse(number) => refused(p, number),
+    }
+}
+
 // One event: its number, the trains written off and the plant after it.
 pub fn handle(p: Plant, e: Event) -> Answer
     ensures { λ r. ⌜ r ≡ step p e ⌝ }
 {
     if plant::in_range(p) {
-        let k = (e.crossing % 8) as usize;
-        let site = p.site;
-        let s = site.entries[k];
-        let c = p.crossings[k];
-        let v = verdict::judge(site.n, s, c, e);
-        return match v {
-            Verdict::Take(t) => take(p, t),
-            Verdict::Refuse(number) => refused(p, number),
-        };
+        return answer(p, e);
     }
     refused(p, numbers::OUT_OF_RANGE)
 }
