@@ -1,4 +1,4 @@
-/* Wilzhoram, the level-crossing engine: its five calls for C. Link libwilzhoram.a (rt staticlib wilzhoram), x86-64.
+/* Wilzhoram, the level-crossing engine: its six calls for C. Link libwilzhoram.a (rt staticlib wilzhoram), x86-64.
  *
  * Every call ends on every input and answers with a number: 0 taken, otherwise a refusal of the table in README.md.
  * A refused call gives back the plant it was given and zero counts, and leaves every lent byte as it was.
@@ -78,6 +78,12 @@ typedef struct {
     wilzhoram_plant plant;
 } wilzhoram_answer;
 
+/* What a preview gives: what the event would answer (T-03). No plant comes back. */
+typedef struct {
+    uint8_t number;
+    uint32_t written;
+} wilzhoram_preview_result;
+
 /* What a sheet run gives. */
 typedef struct {
     uint8_t number;
@@ -98,6 +104,10 @@ wilzhoram_answer wilzhoram_event(wilzhoram_plant plant, wilzhoram_event_bytes ev
 /* Draws the panel of 16n bytes: 0, or number 14 or 15. */
 uint8_t wilzhoram_draw(wilzhoram_plant plant, uint8_t *panel, size_t length);
 
+/* Looks before an event (T-03, docs/notes/T-03.md): its number and written-off count, and in the panel of 16n bytes what a
+ * drawing after it would give; the plant is not moved on. 15, then 14, then the event's own numbers. */
+wilzhoram_preview_result wilzhoram_preview(wilzhoram_plant plant, wilzhoram_event_bytes event, uint8_t *panel, size_t length);
+
 /* Applies each event of a sheet in turn and draws the panel after the last: 0, or number 2, 4, 14 or 15. */
 wilzhoram_run_result wilzhoram_run(wilzhoram_plant plant, const uint8_t *sheet, size_t sheet_length, uint8_t *panel,
                                    size_t panel_length);
@@ -107,8 +117,9 @@ wilzhoram_run_result wilzhoram_run(wilzhoram_plant plant, const uint8_t *sheet, 
  * library's memory functions, all that a call calls, are bound when the program starts (-z now, or linked statically). */
 #define WILZHORAM_STACK_READ 832
 #define WILZHORAM_STACK_WRITE 320
-#define WILZHORAM_STACK_EVENT 3584
+#define WILZHORAM_STACK_EVENT 4032
 #define WILZHORAM_STACK_DRAW 1152
+#define WILZHORAM_STACK_PREVIEW 3648
 #define WILZHORAM_STACK_RUN 3072
 
 #ifdef __cplusplus

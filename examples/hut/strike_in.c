@@ -1,35 +1,12 @@
 /* Reads a site book, lets a train strike in on track 0 of crossing 0, and prints the panel before and after. */
-#include "wilzhoram.h"
-#include <stdio.h>
-
-static int show(wilzhoram_plant plant) {
-    uint8_t panel[16 * 8];
-    size_t length = 16 * (size_t)plant.site.n;
-    uint8_t number = wilzhoram_draw(plant, panel, length);
-    if (number != 0) {
-        printf("refused %u\n", number);
-        return 1;
-    }
-    for (size_t i = 0; i < length; i++) {
-        if (i % 16 == 0)
-            printf("%zu:", i / 16);
-        printf(" %02x", panel[i]);
-        if (i % 16 == 15)
-            printf("\n");
-    }
-    return 0;
-}
+#include "hut.h"
 
 int main(void) {
     /* Two crossings: two full booms on one track, four full booms on two tracks, track 1 of them dependent. */
     static const uint8_t book[] = {2, 3, 1, 0, 4, 2, 2, 2, 0, 0, 0, 30, 0, 18, 0};
     const wilzhoram_event_bytes strike_in = {1, 0, 0, 0};
     wilzhoram_reading site = wilzhoram_read(book, sizeof book);
-    if (site.number != 0) {
-        printf("refused %u\n", site.number);
-        return 1;
-    }
-    if (show(site.plant))
+    if (refused(site.number) || show(site.plant))
         return 1;
     wilzhoram_answer answer = wilzhoram_event(site.plant, strike_in);
     printf("strike-in: number %u, written off %u\n", answer.number, (unsigned)answer.written);

@@ -28,7 +28,7 @@ typedef struct {
     unsigned long met[16];
 } tally;
 
-extern tally of_read, of_write, of_event, of_draw, of_run;
+extern tally of_read, of_write, of_event, of_draw, of_preview, of_run;
 
 _Noreturn void fail(const char *format, ...);
 void answered(tally *call, unsigned number); /* fails on a number that the call may not answer */

@@ -6,7 +6,7 @@
 #include <stdio.h>
 #include <string.h>
 
-enum { PLANTS = 100000, LIFE = 200, EDGE = 32, LENT = 160, EVENTS = 12, IN_RANGE = 16 };
+enum { PLANTS = 100000, LIFE = 200, EDGE = 32, LENT = 160, EVENTS = 12, EVENTS_OWN = 16 };
 
 /* What a call gave, with the edges before and after the lent bytes. */
 typedef struct {
@@ -34,6 +34,12 @@ static void call_draw(const wilzhoram_plant *plant, outcome *out) {
     out->number = wilzhoram_draw(*plant, out->lent + EDGE, lent_length);
 }
 
+static void call_preview(const wilzhoram_plant *plant, outcome *out) {
+    wilzhoram_preview_result preview = wilzhoram_preview(*plant, event, out->lent + EDGE, lent_length);
+    out->number = preview.number;
+    out->written = preview.written;
+}
+
 static size_t sheet_size(void) {
     return sheet[0] + 256 * (size_t)sheet[1];
 }
@@ -54,11 +60,17 @@ static void call_write(const wilzhoram_plant *plant, outcome *out) {
 }
 
 static unsigned event_number(const wilzhoram_plant *plant) {
-    return in_range(plant) ? IN_RANGE : SPOILT; /* IN_RANGE: any number but 15 */
+    return in_range(plant) ? EVENTS_OWN : SPOILT; /* EVENTS_OWN: any number but 14 and 15 */
 }
 
 static unsigned draw_number(const wilzhoram_plant *plant) {
     return !in_range(plant) ? SPOILT : lent_length == 16 * (size_t)plant->site.n ? 0 : 14;
+}
+
+/* T-03: the numbers of a drawing, then the event's. */
+static unsigned preview_number(const wilzhoram_plant *plant) {
+    unsigned number = draw_number(plant);
+    return number != 0 ? number : EVENTS_OWN;
 }
 
 static unsigned run_number(const wilzhoram_plant *plant) {
@@ -83,7 +95,8 @@ typedef struct {
 } trial;
 
 static const trial event_trial = {&of_event, call_event, event_number}, draw_trial = {&of_draw, call_draw, draw_number},
-                   run_trial = {&of_run, call_run, run_number}, write_trial = {&of_write, call_write, write_number};
+                   preview_trial = {&of_preview, call_preview, preview_number}, run_trial = {&of_run, call_run, run_number},
+                   write_trial = {&of_write, call_write, write_number};
 
 _Noreturn static void wrong(const trial *t, const wilzhoram_plant *plant, unsigned number, const char *what) {
     const uint8_t *bytes = (const uint8_t *)plant;
@@ -97,9 +110,9 @@ _Noreturn static void wrong(const trial *t, const wilzhoram_plant *plant, unsign
 
 static void check_number(const trial *t, const wilzhoram_plant *plant, unsigned number, unsigned wanted) {
     char words[32];
-    if (wanted == IN_RANGE && number == SPOILT)
-        wrong(t, plant, number, "but the plant is in range");
-    if (wanted == IN_RANGE || number == wanted)
+    if (wanted == EVENTS_OWN && (number == 14 || number == SPOILT))
+        wrong(t, plant, number, "but plant and frame are right");
+    if (wanted == EVENTS_OWN || number == wanted)
         return;
     snprintf(words, sizeof words, "%u expected", wanted);
     wrong(t, plant, number, words);
@@ -157,6 +170,7 @@ static void try_all(const wilzhoram_plant *plant) {
     choose_inputs(plant, 16 * (size_t)plant->site.n);
     try_call(&event_trial, plant, &after);
     try_call(&draw_trial, plant, &after);
+    try_call(&preview_trial, plant, &after);
     try_call(&run_trial, plant, &after);
     choose_inputs(plant, 1 + 7 * (size_t)plant->site.n);
     try_call(&write_trial, plant, &after);
@@ -219,6 +233,7 @@ int main(void) {
     printf(", %u with a value in an unsure flag", flags);
     print_tally(&of_event);
     print_tally(&of_draw);
+    print_tally(&of_preview);
     print_tally(&of_run);
     print_tally(&of_write);
     printf("\n");

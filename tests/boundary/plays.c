@@ -13,6 +13,7 @@ typedef struct {
     uint8_t (*write)(wilzhoram_site, uint8_t *, size_t);
     wilzhoram_answer (*event)(wilzhoram_plant, wilzhoram_event_bytes);
     uint8_t (*draw)(wilzhoram_plant, uint8_t *, size_t);
+    wilzhoram_preview_result (*preview)(wilzhoram_plant, wilzhoram_event_bytes, uint8_t *, size_t);
     wilzhoram_run_result (*run)(wilzhoram_plant, const uint8_t *, size_t, uint8_t *, size_t);
 } engine;
 
@@ -36,14 +37,21 @@ static uint8_t idle_draw(wilzhoram_plant plant, uint8_t *panel, size_t length) {
     return plant.beat == 0 && panel == NULL && length == 0;
 }
 
+static wilzhoram_preview_result idle_preview(wilzhoram_plant plant, wilzhoram_event_bytes event, uint8_t *panel,
+                                             size_t length) {
+    wilzhoram_preview_result preview = {plant.beat == event.code && panel == NULL && length == 0, 0};
+    return preview;
+}
+
 static wilzhoram_run_result idle_run(wilzhoram_plant plant, const uint8_t *sheet, size_t length, uint8_t *panel, size_t size) {
     wilzhoram_run_result run;
     run.number = plant.beat == 0 && sheet == panel && length == size;
     return run;
 }
 
-static const engine idle_engine = {idle_read, idle_write, idle_event, idle_draw, idle_run};
-static const engine real_engine = {wilzhoram_read, wilzhoram_write, wilzhoram_event, wilzhoram_draw, wilzhoram_run};
+static const engine idle_engine = {idle_read, idle_write, idle_event, idle_draw, idle_preview, idle_run};
+static const engine real_engine = {wilzhoram_read, wilzhoram_write, wilzhoram_event, wilzhoram_draw, wilzhoram_preview,
+                                   wilzhoram_run};
 static const engine *volatile now; /* volatile: the compiler makes one code for both */
 
 void use_engine(bool real) {
@@ -62,19 +70,30 @@ static void play_write(void) {
 }
 
 /* Codes, crossings, places and values of the table, and one beyond each. */
+enum { EVENTS = 11 * 9 * 6 * 4 };
+#define EVENT(at) \
+    ((wilzhoram_event_bytes){(uint8_t)((at) % 11), (uint8_t)((at) / 11 % 9), (uint8_t)((at) / 99 % 6), (uint8_t)((at) / 594)})
+
 static void play_event(void) {
     for (int i = 0; i < PLANTS; i++)
-        for (unsigned at = 0; at < 11 * 9 * 6 * 4; at++) {
-            wilzhoram_event_bytes event = {(uint8_t)(at % 11), (uint8_t)(at / 11 % 9), (uint8_t)(at / 99 % 6),
-                                           (uint8_t)(at / 594)};
-            met |= 1u << (now->event(plants[i], event).number & 31);
-        }
+        for (unsigned at = 0; at < EVENTS; at++)
+            met |= 1u << (now->event(plants[i], EVENT(at)).number & 31);
 }
 
 static void play_draw(void) {
     for (int i = 0; i < PLANTS; i++)
         for (size_t length = 0; length <= PANEL_MOST; length++)
             met |= 1u << (now->draw(plants[i], lent, length) & 31);
+}
+
+/* Each event with a right frame, and every frame with an event. */
+static void play_preview(void) {
+    for (int i = 0; i < PLANTS; i++) {
+        for (unsigned at = 0; at < EVENTS; at++)
+            met |= 1u << (now->preview(plants[i], EVENT(at), lent, 16 * (size_t)(plants[i].site.n % 9)).number & 31);
+        for (size_t length = 0; length <= PANEL_MOST; length++)
+            met |= 1u << (now->preview(plants[i], EVENT(length), lent, length).number & 31);
+    }
 }
 
 static void play_run(void) {
@@ -92,6 +111,7 @@ const measured calls[CALLS] = {
     {&of_write, play_write, UP(sizeof(wilzhoram_site)), WILZHORAM_STACK_WRITE},
     {&of_event, play_event, UP(sizeof(wilzhoram_answer)) + PLANT, WILZHORAM_STACK_EVENT},
     {&of_draw, play_draw, PLANT, WILZHORAM_STACK_DRAW},
+    {&of_preview, play_preview, PLANT, WILZHORAM_STACK_PREVIEW},
     {&of_run, play_run, UP(sizeof(wilzhoram_run_result)) + PLANT, WILZHORAM_STACK_RUN},
 };
 

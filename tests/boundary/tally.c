@@ -1,4 +1,4 @@
-/* The numbers of each call (document 01, "Numbers at the hut"; document 02, T-01, for 9), and which were met. */
+/* The numbers of each call (document 01, "Numbers at the hut"; document 02, T-01, for 9, T-03 for the preview), and which were met. */
 #include "boundary.h"
 #include <stdarg.h>
 #include <stdio.h>
@@ -8,6 +8,7 @@ tally of_read = {"read", 1u | 1u << 1 | 1u << 2 | 1u << 3, {0}};
 tally of_write = {"write", 1u | 1u << 2 | 1u << 3 | 1u << 14, {0}};
 tally of_event = {"event", 1u | 0xfu << 5 | 0xfu << 10 | 1u << 15, {0}}; /* 5 to 8 and 10 to 13 */
 tally of_draw = {"draw", 1u | 1u << 14 | 1u << 15, {0}};
+tally of_preview = {"preview", 1u | 0xfu << 5 | 0x3fu << 10, {0}}; /* 5 to 8 and 10 to 15 */
 tally of_run = {"run", 1u | 1u << 2 | 1u << 4 | 1u << 14 | 1u << 15, {0}};
 
 void fail(const char *format, ...) {

@@ -71,6 +71,13 @@ pub struct Answer {
     pub plant: Plant,
 }
 
+// What a preview returns (document 02, T-03): what the event would answer; no plant comes back.
+#[repr(C)]
+pub struct Preview {
+    pub number: u8,
+    pub written: u32,
+}
+
 // What reading a site book returns.
 #[repr(C)]
 pub struct Reading {

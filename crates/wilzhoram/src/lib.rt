@@ -1,13 +1,15 @@
-// The engine for programs in C and Rust: the five calls of include/wilzhoram.h, each thin over the call that does the work.
+// The engine for programs in C and Rust: the six calls of include/wilzhoram.h, each thin over the call that does the work.
 // Any plant, any settings, any bytes; a refused call leaves every lent byte.
 use machine::Answer;
 use machine::Event;
 use machine::Plant;
+use machine::Preview;
 use machine::Reading;
 use machine::Run;
 use machine::Site;
 ghost use mathlib.Core.Path.{_≡_};
 ghost use Rattle.machine.specs.Panel.{draw-number, drawn};
+ghost use Rattle.machine.specs.Preview.{preview-number, preview-written, preview-panel};
 ghost use Rattle.machine.specs.Sheet.{run, run-panel};
 ghost use Rattle.machine.specs.SiteBook.{read, write-number, written-book};
 ghost use Rattle.machine.specs.Step.{step};
@@ -44,6 +46,16 @@ pub extern "C" fn wilzhoram_draw(plant: Plant, panel: &mut [u8]) -> u8
     ensures bytes { λ _. ⌜ now (panel .exit) ≡ drawn plant (now (panel .entry)) ⌝ }
 {
     panel::draw(plant, panel)
+}
+
+// One event previewed (T-03): its number and the trains written off, and what it would draw in a lent output.
+#[no_mangle]
+pub extern "C" fn wilzhoram_preview(plant: Plant, event: Event, panel: &mut [u8]) -> Preview
+    ensures number { λ r. ⌜ r .number ≡ preview-number plant event (now (panel .entry)) ⌝ }
+    ensures written { λ r. ⌜ r .written ≡ preview-written plant event (now (panel .entry)) ⌝ }
+    ensures bytes { λ _. ⌜ now (panel .exit) ≡ preview-panel plant event (now (panel .entry)) ⌝ }
+{
+    preview::preview(plant, event, panel)
 }
 
 // A sheet run, and the panel after its last event drawn into a lent output.

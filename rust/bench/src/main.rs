@@ -1,8 +1,10 @@
 //! The time of the proved engine's sheet run over that of the plain one, as a ratio.
 //!
 //! Both run the same sheets of 4,096 events over eight crossings, one after the other in
-//! every round, and every output is compared. bench [ROUNDS]
+//! every round, and every output is compared. Then the proved preview's time, over that of an
+//! event and a drawing and over that of the plain preview. bench [ROUNDS]
 
+mod previews;
 mod sheets;
 
 use compare::engines::Plain;
@@ -69,5 +71,8 @@ fn main() -> ExitCode {
         println!("{name:<10} {ticks:>6} {taken:>6} {codes:>12} {least:>8.2} {median:>7.2}");
     }
     println!("every output equal in every round");
-    ExitCode::SUCCESS
+    match previews::print(rounds) {
+        true => ExitCode::SUCCESS,
+        false => ExitCode::FAILURE,
+    }
 }

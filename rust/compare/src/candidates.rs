@@ -12,13 +12,21 @@ pub(crate) fn candidates(case: &Case) -> Vec<Case> {
             .map(|book| Case::Read { book })
             .collect(),
         Case::Write { site, frame } => write_candidates(site, frame),
-        Case::Event { plant, event } => event_candidates(plant, *event),
+        Case::Event { plant, event } => lower_moments(plant, *event)
+            .into_iter()
+            .map(|(plant, event)| Case::Event { plant, event })
+            .collect(),
         Case::Draw { plant, frame } => draw_candidates(plant, frame),
         Case::Run {
             plant,
             sheet,
             frame,
         } => run_candidates(plant, sheet, frame),
+        Case::Preview {
+            plant,
+            event,
+            frame,
+        } => preview_candidates(plant, *event, frame),
         Case::Session { site, events } => session_candidates(site, events),
     }
 }
@@ -39,13 +47,14 @@ fn shorter_bytes(bytes: &[u8]) -> Vec<Vec<u8>> {
     list
 }
 
-/// The frame without its last byte or last 16 bytes, or filled with zeros.
+/// The frame without its last byte, last 16 bytes or half of them, or filled with zeros.
 fn shorter_frames(frame: &[u8]) -> Vec<Vec<u8>> {
     let len = frame.len();
     vec![
         vec![0; len],
         vec![0; len.saturating_sub(1)],
         vec![0; len.saturating_sub(16)],
+        vec![0; len / 2],
     ]
 }
 
@@ -206,23 +215,37 @@ fn plant_without(plant: &Plant, i: usize) -> Plant {
     }
 }
 
-fn event_candidates(plant: &Plant, event: [u8; 4]) -> Vec<Case> {
+/// The plants with one crossing or one number less, and the events with one byte lower.
+fn lower_moments(plant: &Plant, event: [u8; 4]) -> Vec<(Plant, [u8; 4])> {
     let mut list = Vec::new();
     for i in can_go(&plant.site) {
         if let Some(event) = renumber(event, i) {
-            let plant = plant_without(plant, i);
-            list.push(Case::Event { plant, event });
+            list.push((plant_without(plant, i), event));
         }
     }
     let lower = lower_plants(plant).into_iter();
-    list.extend(lower.map(|plant| Case::Event { plant, event }));
+    list.extend(lower.map(|plant| (plant, event)));
     for bytes in shorter_bytes(&event) {
         if let Ok(event) = bytes.try_into() {
-            list.push(Case::Event {
-                plant: *plant,
-                event,
-            });
+            list.push((*plant, event));
         }
+    }
+    list
+}
+
+/// With a crossing goes its part of the frame.
+fn preview_candidates(plant: &Plant, event: [u8; 4], frame: &[u8]) -> Vec<Case> {
+    let case = |plant: Plant, event: [u8; 4], frame: Vec<u8>| Case::Preview {
+        plant,
+        event,
+        frame,
+    };
+    let frames = shorter_frames(frame).into_iter();
+    let mut list: Vec<Case> = frames.map(|f| case(*plant, event, f)).collect();
+    for (lower, event) in lower_moments(plant, event) {
+        let gone = usize::from(plant.site.n - lower.site.n);
+        let len = frame.len().saturating_sub(16 * gone);
+        list.push(case(lower, event, frame[..len].to_vec()));
     }
     list
 }

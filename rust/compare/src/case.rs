@@ -3,10 +3,13 @@
 use engine::{book_len, in_range, panel_len, Plant, Site, MAX_EVENTS};
 use gen::{
     all_lengths, book, coherent, damaged_book, damaged_sheet, event, event_grid, every_boom,
-    every_flag, frame, junk_event, lost_plants, lost_reports, mixed, plant, quick_site,
-    sheet_bytes, site, spoilt_plant, swept_event, swept_grid, swept_plant, BookDamage, Rng,
-    SheetDamage, Spoil,
+    every_flag, frame, junk_event, lost_plants, lost_reports, mixed, plant, played, preview_frame,
+    preview_grid, quick_site, sheet_bytes, site, spoilt_plant, swept_event, swept_grid,
+    swept_plant, BookDamage, Rng, SheetDamage, Spoil,
 };
+
+/// Takes the previews' numbers apart from those of the cases beside them.
+const PREVIEWS: u64 = 0x7072_6576_6965_7773;
 
 /// An input; frames hold the bytes lent.
 #[derive(Clone, PartialEq, Debug)]
@@ -31,6 +34,11 @@ pub enum Case {
         sheet: Vec<u8>,
         frame: Vec<u8>,
     },
+    Preview {
+        plant: Plant,
+        event: [u8; 4],
+        frame: Vec<u8>,
+    },
     /// From the fresh plant of a book, event by event and as a sheet.
     Session {
         site: Site,
@@ -52,6 +60,11 @@ impl Case {
         }
     }
 
+    /// The preview beside case `index` under `seed`.
+    pub fn preview(seed: u64, index: u64) -> Case {
+        preview_case(&mut Rng::of_case(seed ^ PREVIEWS, index))
+    }
+
     /// Session `index` under `seed`.
     pub fn session(seed: u64, index: u64) -> Case {
         session_case(&mut Rng::of_case(seed, index))
@@ -59,7 +72,8 @@ impl Case {
 
     /// The cases that do not depend on a seed: books of every length, a grid of events and
     /// frames of every length on a few plants, swept counters at every kind, lost booms at
-    /// every kind that has them, and every value of every flag and of every boom report.
+    /// every kind that has them, and every value of every flag and of every boom report; then
+    /// grids of previews.
     pub fn fixed() -> impl Iterator<Item = Case> {
         let books = all_lengths().into_iter().map(|book| Case::Read { book });
         let rng = &mut Rng::new(0);
@@ -76,7 +90,8 @@ impl Case {
             [tick, draw]
         });
         let bytes = every_flag().chain(every_boom()).flat_map(calls);
-        books.chain(grids).chain(events).chain(lost).chain(bytes)
+        let all = books.chain(grids).chain(events).chain(lost).chain(bytes);
+        all.chain(fixed_previews())
     }
 
     pub fn name(&self) -> &'static str {
@@ -86,6 +101,7 @@ impl Case {
             Case::Event { .. } => "event",
             Case::Draw { .. } => "draw",
             Case::Run { .. } => "run",
+            Case::Preview { .. } => "preview",
             Case::Session { .. } => "session",
         }
     }
@@ -129,6 +145,21 @@ fn calls(plant: Plant) -> [Case; 3] {
     ]
 }
 
+/// Grids of previews, and every value of every flag and of every boom report.
+fn fixed_previews() -> impl Iterator<Item = Case> {
+    let tick = |plant: Plant| (plant, [0; 4], panel_len(plant.site.n));
+    let bytes = every_flag().chain(every_boom()).map(tick);
+    bytes.chain(preview_grid()).map(|(plant, event, len)| {
+        // Bytes of some older panel, each another than its neighbour.
+        let frame = (0..len).map(|i| 0xa5 ^ i as u8).collect();
+        Case::Preview {
+            plant,
+            event,
+            frame,
+        }
+    })
+}
+
 fn read_case(rng: &mut Rng) -> Case {
     let book = match rng.below(4) {
         0 => book(rng),
@@ -165,18 +196,46 @@ fn any_plant(rng: &mut Rng) -> Plant {
 }
 
 fn event_case(rng: &mut Rng) -> Case {
+    let (plant, event) = moment(rng);
+    Case::Event { plant, event }
+}
+
+/// Any plant and an event for it.
+fn moment(rng: &mut Rng) -> (Plant, [u8; 4]) {
     if rng.once_in(8) {
         let (plant, crossing) = swept_plant(rng);
         let event = swept_event(rng, &plant, crossing);
-        return Case::Event { plant, event };
+        return (plant, event);
     }
     let plant = any_plant(rng);
-    let event = match rng.below(4) {
-        0 => junk_event(rng, &plant),
+    (plant, any_event(rng, &plant))
+}
+
+fn any_event(rng: &mut Rng, plant: &Plant) -> [u8; 4] {
+    match rng.below(4) {
+        0 => junk_event(rng, plant),
         1 => [0, 0, 0, 0],
-        _ => event(rng, &plant),
+        _ => event(rng, plant),
+    }
+}
+
+/// Any moment, or once in eight one deep in play.
+fn preview_case(rng: &mut Rng) -> Case {
+    let (plant, event) = match rng.below(8) {
+        0 => {
+            let fresh = Plant::fresh(&quick_site(rng));
+            let len = rng.below(400) as usize;
+            let plant = played(rng, &fresh, len);
+            (plant, any_event(rng, &plant))
+        }
+        _ => moment(rng),
     };
-    Case::Event { plant, event }
+    let frame = preview_frame(rng, plant.site.n);
+    Case::Preview {
+        plant,
+        event,
+        frame,
+    }
 }
 
 fn draw_case(rng: &mut Rng) -> Case {

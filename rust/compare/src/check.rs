@@ -1,5 +1,7 @@
 //! Puts one case to both engines and looks for a difference.
 
+mod previews;
+
 use crate::case::Case;
 use crate::print::hex;
 use crate::Engine;
@@ -16,6 +18,9 @@ pub struct Pair<'a> {
 
 /// What differs, in words.
 pub type Check = Result<(), String>;
+
+/// In a session one event of so many is previewed, and the last.
+const LOOK_EVERY: usize = 8;
 
 /// What each engine is lent for a panel.
 type Frames = [Vec<u8>; 2];
@@ -41,6 +46,14 @@ impl Pair<'_> {
             } => {
                 seen.handed(Call::Run, plant);
                 self.run(plant, sheet, frame, seen)
+            }
+            Case::Preview {
+                plant,
+                event,
+                frame,
+            } => {
+                seen.handed(Call::Preview, plant);
+                self.preview(plant, *event, frame, seen)
             }
             Case::Session { site, events } => self.session(site, events, seen),
         }
@@ -82,8 +95,13 @@ impl Pair<'_> {
         Ok(())
     }
 
-    /// One event; `plant` becomes the plant after it. Gives the number.
-    fn event(&self, plant: &mut Plant, e: [u8; 4], seen: &mut Coverage) -> Result<u8, String> {
+    /// One event; `plant` becomes the plant after it. Gives the number and the written-off count.
+    fn event(
+        &self,
+        plant: &mut Plant,
+        e: [u8; 4],
+        seen: &mut Coverage,
+    ) -> Result<(u8, u32), String> {
         let before = *plant;
         let mut other_plant = before;
         let answer = self.first.event(plant, e);
@@ -94,7 +112,7 @@ impl Pair<'_> {
             same_plant(&before, &other_plant)?;
         }
         same_plant(plant, &other_plant)?;
-        Ok(answer.0)
+        Ok(answer)
     }
 
     /// One panel into a frame for each engine, both with the same bytes; gives the number.
@@ -136,19 +154,35 @@ impl Pair<'_> {
         same_bytes("panel of a run", &panel, &other_panel)
     }
 
+    /// One event of a list and the panel after it; gives the event's answer.
+    fn step(
+        &self,
+        plant: &mut Plant,
+        e: [u8; 4],
+        frames: &mut Frames,
+        seen: &mut Coverage,
+    ) -> Result<(u8, u32), String> {
+        let answer = self.event(plant, e, seen)?;
+        // A refused event leaves the plant, whose panel was drawn before.
+        if answer.0 == 0 {
+            self.draw(plant, frames, seen)?;
+        }
+        Ok(answer)
+    }
+
     fn session(&self, site: &Site, events: &[[u8; 4]], seen: &mut Coverage) -> Check {
         let book = book_bytes(site);
         self.read(&book, seen)?;
         let (_, mut plant) = self.first.read_book(&book);
         let lent = vec![0xc3; panel_len(site.n)];
         self.run(&plant, &sheet_bytes(events), &lent, seen)?;
-        let mut frames = [lent.clone(), lent];
+        let mut frames = [lent.clone(), lent.clone()];
         self.draw(&plant, &mut frames, seen)?;
         for (i, e) in events.iter().enumerate() {
-            let step = match self.event(&mut plant, *e, seen) {
-                // A refused event leaves the plant, whose panel was drawn before.
-                Ok(0) => self.draw(&plant, &mut frames, seen),
-                other => other,
+            let looks = i % LOOK_EVERY == 0 || i + 1 == events.len();
+            let step = match looks {
+                true => self.looked_step(&mut plant, *e, &mut frames, &lent, seen),
+                false => self.step(&mut plant, *e, &mut frames, seen).map(|_| ()),
             };
             step.map_err(|what| format!("event {i}: {what}"))?;
         }

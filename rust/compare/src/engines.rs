@@ -27,6 +27,10 @@ impl Engine for Plain {
         engine::draw(plant, panel)
     }
 
+    fn preview(&self, plant: &Plant, event: [u8; 4], panel: &mut [u8]) -> (u8, u32) {
+        engine::preview(plant, event, panel)
+    }
+
     fn run(&self, plant: &mut Plant, sheet: &[u8], panel: &mut [u8]) -> Run {
         engine::run(plant, sheet, panel)
     }
@@ -54,6 +58,10 @@ impl Engine for Planted {
 
     fn draw(&self, plant: &Plant, panel: &mut [u8]) -> u8 {
         (self.0.calls.draw)(plant, panel)
+    }
+
+    fn preview(&self, plant: &Plant, event: [u8; 4], panel: &mut [u8]) -> (u8, u32) {
+        (self.0.calls.preview)(plant, event, panel)
     }
 
     fn run(&self, plant: &mut Plant, sheet: &[u8], panel: &mut [u8]) -> Run {

@@ -16,7 +16,9 @@ pub fn files(case: &Case) -> (Option<Vec<u8>>, Option<Vec<u8>>) {
     match case {
         Case::Read { book } => (Some(book.clone()), None),
         Case::Write { site, .. } => (book(site), None),
-        Case::Event { plant, event } => (book(&plant.site), Some(sheet_bytes(&[*event]))),
+        Case::Event { plant, event } | Case::Preview { plant, event, .. } => {
+            (book(&plant.site), Some(sheet_bytes(&[*event])))
+        }
         Case::Draw { plant, .. } => (book(&plant.site), Some(sheet_bytes(&[]))),
         Case::Run { plant, sheet, .. } => (book(&plant.site), Some(sheet.clone())),
         Case::Session { site, events } => (book(site), Some(sheet_bytes(events))),
@@ -26,27 +28,30 @@ pub fn files(case: &Case) -> (Option<Vec<u8>>, Option<Vec<u8>>) {
 /// How many events a case has.
 pub fn event_count(case: &Case) -> usize {
     match case {
-        Case::Event { .. } => 1,
+        Case::Event { .. } | Case::Preview { .. } => 1,
         Case::Run { sheet, .. } => sheet.len().saturating_sub(2) / 4,
         Case::Session { events, .. } => events.len(),
         _ => 0,
     }
 }
 
-fn start(case: &Case) -> Option<&Plant> {
+/// The plant that a case hands over.
+pub fn start(case: &Case) -> Option<&Plant> {
     match case {
-        Case::Event { plant, .. } | Case::Draw { plant, .. } | Case::Run { plant, .. } => {
-            Some(plant)
-        }
+        Case::Event { plant, .. }
+        | Case::Draw { plant, .. }
+        | Case::Run { plant, .. }
+        | Case::Preview { plant, .. } => Some(plant),
         _ => None,
     }
 }
 
 fn lent(case: &Case) -> Option<usize> {
     match case {
-        Case::Write { frame, .. } | Case::Draw { frame, .. } | Case::Run { frame, .. } => {
-            Some(frame.len())
-        }
+        Case::Write { frame, .. }
+        | Case::Draw { frame, .. }
+        | Case::Run { frame, .. }
+        | Case::Preview { frame, .. } => Some(frame.len()),
         _ => None,
     }
 }

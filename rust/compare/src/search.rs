@@ -53,10 +53,14 @@ pub struct Outcome {
 }
 
 impl Plan {
-    fn case(&self, index: u64) -> Case {
+    /// A session, or any case and a preview beside it.
+    fn cases(&self, index: u64) -> Vec<Case> {
         match self.sessions {
-            true => Case::session(self.seed, index),
-            false => Case::make(self.seed, index),
+            true => vec![Case::session(self.seed, index)],
+            false => vec![
+                Case::make(self.seed, index),
+                Case::preview(self.seed, index),
+            ],
         }
     }
 
@@ -88,9 +92,9 @@ pub fn search(pair: Pair, plan: Plan, progress: &mut dyn FnMut(u64, &Coverage)) 
     let mut cases = 0;
     while !plan.is_over(cases, since) {
         let index = plan.first + cases;
-        let case = plan.case(index);
+        let mut beside = plan.cases(index).into_iter();
         cases += 1;
-        if pair.check(&case, &mut seen).is_err() {
+        if let Some(case) = beside.find(|case| pair.check(case, &mut seen).is_err()) {
             let index = Some(index);
             return Outcome {
                 cases,

@@ -34,14 +34,8 @@ impl Engine for Proved {
         self.call(|| wilzhoram::write(site, out))
     }
 
-    fn event(&self, plant: &mut Plant, [code, crossing, place, value]: [u8; 4]) -> (u8, u32) {
-        let event = wilzhoram::Event {
-            code,
-            crossing,
-            place,
-            value,
-        };
-        let before = proved_plant(plant);
+    fn event(&self, plant: &mut Plant, event: [u8; 4]) -> (u8, u32) {
+        let (before, event) = (proved_plant(plant), proved_event(event));
         let answer = self.call(|| wilzhoram::event(before, event));
         *plant = plain_plant(&answer.plant);
         (answer.number, answer.written)
@@ -50,6 +44,12 @@ impl Engine for Proved {
     fn draw(&self, plant: &Plant, panel: &mut [u8]) -> u8 {
         let plant = proved_plant(plant);
         self.call(|| wilzhoram::draw(plant, panel))
+    }
+
+    fn preview(&self, plant: &Plant, event: [u8; 4], panel: &mut [u8]) -> (u8, u32) {
+        let (plant, event) = (proved_plant(plant), proved_event(event));
+        let preview = self.call(|| wilzhoram::preview(plant, event, panel));
+        (preview.number, preview.written)
     }
 
     fn run(&self, plant: &mut Plant, sheet: &[u8], panel: &mut [u8]) -> Run {
@@ -94,7 +94,18 @@ fn proved_site(site: &Site) -> wilzhoram::Site {
     }
 }
 
-fn proved_plant(plant: &Plant) -> wilzhoram::Plant {
+/// The four bytes as the proved engine takes them.
+pub fn proved_event([code, crossing, place, value]: [u8; 4]) -> wilzhoram::Event {
+    wilzhoram::Event {
+        code,
+        crossing,
+        place,
+        value,
+    }
+}
+
+/// The plant as the proved engine takes it.
+pub fn proved_plant(plant: &Plant) -> wilzhoram::Plant {
     wilzhoram::Plant {
         site: proved_site(&plant.site),
         beat: plant.beat,

@@ -72,6 +72,11 @@ fn weight(case: &Case) -> u64 {
             sheet,
             frame,
         } => plant_weight(plant) + bytes_weight(sheet) + bytes_weight(frame),
+        Case::Preview {
+            plant,
+            event,
+            frame,
+        } => plant_weight(plant) + bytes_weight(event) + bytes_weight(frame),
         Case::Session { site, events } => site_weight(site) + bytes_weight(events.as_flattened()),
     }
 }

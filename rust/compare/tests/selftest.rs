@@ -3,9 +3,10 @@
 use compare::case::Case;
 use compare::check::Pair;
 use compare::engines::{Plain, Planted};
-use compare::print::text;
-use compare::search::{find_fault, search, search_fixed, Plan};
+use compare::print::{start, text};
+use compare::search::{find_fault, reduce, search, search_fixed, Plan};
 use compare::second::Proved;
+use compare::{Plant, Site};
 use faults::FAULTS;
 use gen::{flags, Coverage};
 
@@ -15,7 +16,7 @@ const SESSIONS: u64 = 400;
 /// Faults that no list of events from a fresh plant can show: in the lent frames, in the
 /// order of refusals of a book, in spoilt plants, a repeated hold, since a hold stands in the
 /// way of a running countdown, and normal position with an unsure track, which is never reached.
-const NOT_FROM_FRESH: [&str; 22] = [
+const NOT_FROM_FRESH: [&str; 33] = [
     "book_any_gap",
     "book_frame_first",
     "book_length_first",
@@ -23,6 +24,17 @@ const NOT_FROM_FRESH: [&str; 22] = [
     "countdown_repeated_hold",
     "normal_not_unsure",
     "panel_draw_refused",
+    "preview_clears_spoilt",
+    "preview_clears_wrong_frame",
+    "preview_code_before_frame",
+    "preview_code_before_range",
+    "preview_count_of_wrong_frame",
+    "preview_event_before_frame",
+    "preview_frame_before_range",
+    "preview_length_as_a_byte",
+    "preview_length_as_two_bytes",
+    "preview_longer_frame",
+    "preview_shorter_frame",
     "range_flags",
     "range_flags_lamps",
     "range_flags_one_byte",
@@ -73,16 +85,13 @@ fn sessions_alone_find_what_shows_from_fresh() {
 
 /// Whether a case hands over a flag that is neither 0 nor 1.
 fn has_wide_flag(case: &Case) -> bool {
-    let (Case::Event { plant, .. } | Case::Draw { plant, .. } | Case::Run { plant, .. }) = case
-    else {
-        return false;
-    };
-    plant.crossings.iter().any(|c| flags(c).any(|f| *f > 1))
+    let wide = |plant: &Plant| plant.crossings.iter().any(|c| flags(c).any(|f| *f > 1));
+    start(case).is_some_and(wide)
 }
 
 #[test]
 fn some_faults_show_by_flags_above_1_only() {
-    let cases = (0..CASES).map(|index| Case::make(1, index));
+    let cases = (0..CASES).flat_map(|index| [Case::make(1, index), Case::preview(1, index)]);
     let cases: Vec<Case> = cases.chain(Case::fixed()).collect();
     let (wide, others): (Vec<Case>, Vec<Case>) = cases.into_iter().partition(has_wide_flag);
     let unseen = &mut Coverage::new();
@@ -115,30 +124,91 @@ fn without_a_fault_nothing_differs_and_all_is_reached() {
     assert!(missing.is_empty(), "{missing:?}");
 }
 
+/// Faults of a preview that show only beside an engine without them: they are in the order of
+/// refusals, or take a wrong frame for a right one.
+const NOT_BY_ITSELF: [&str; 8] = [
+    "preview_code_before_frame",
+    "preview_code_before_range",
+    "preview_event_before_frame",
+    "preview_frame_before_range",
+    "preview_length_as_a_byte",
+    "preview_length_as_two_bytes",
+    "preview_longer_frame",
+    "preview_shorter_frame",
+];
+
+/// An engine's preview is held against its own event and drawing.
 #[test]
-fn differences_are_made_small() {
-    let fault = FAULTS.iter().find(|f| f.name == "release_end_only_calling");
-    let planted = Planted(fault.unwrap());
+fn both_engines_with_the_same_fault_in_the_preview() {
+    let missed = FAULTS.iter().filter(|fault| {
+        let planted = &Planted(fault);
+        let pair = Pair {
+            first: planted,
+            second: planted,
+        };
+        let plan = Plan::of_cases(1, CASES);
+        fault.name.starts_with("preview") && search(pair, plan, &mut |_, _| {}).difference.is_none()
+    });
+    let missed: Vec<&str> = missed.map(|fault| fault.name).collect();
+    assert_eq!(missed, NOT_BY_ITSELF);
+}
+
+fn fault(name: &str) -> Planted {
+    Planted(FAULTS.iter().find(|f| f.name == name).unwrap())
+}
+
+/// The smallest case found on which the plain engine and this fault differ.
+fn smallest(name: &str, case: Case) -> Case {
     let pair = Pair {
         first: &Plain,
-        second: &planted,
+        second: &fault(name),
     };
-    let site = {
-        let mut site = engine::Site::ZERO;
-        site.n = 3;
-        let rng = &mut gen::Rng::new(5);
-        site.entries[..3].fill_with(|| gen::entry(rng, true));
-        site.entries[1].mask = 1;
-        site
-    };
+    reduce(pair, case).0
+}
+
+/// Three crossings, the second with a dependent track.
+fn three() -> Site {
+    let mut site = Site { n: 3, ..Site::ZERO };
+    let rng = &mut gen::Rng::new(5);
+    site.entries[..3].fill_with(|| gen::entry(rng, true));
+    site.entries[1].mask = 1;
+    site
+}
+
+#[test]
+fn differences_are_made_small() {
     let mut events = vec![[0; 4]; 40];
     events.extend([[1, 1, 0, 0], [3, 0, 0, 1], [7, 1, 0, 0], [9, 2, 0, 0]]);
     events.extend([[0; 4]; 300]);
-    let case = Case::Session { site, events };
-    let mut unseen = Coverage::new();
-    let small = compare::shrink::shrink(case, &mut |c| pair.check(c, &mut unseen).is_err());
+    let site = three();
+    let small = smallest("release_end_only_calling", Case::Session { site, events });
     let Case::Session { site, events } = small else {
         panic!("another case");
     };
     assert_eq!((site.n, events.len()), (1, 272));
+}
+
+/// A preview in a list is the last event of the list; one by itself keeps what it needs.
+#[test]
+fn previews_are_made_small() {
+    let events = vec![[0; 4], [3, 0, 0, 1], [9, 2, 0, 0], [1, 1, 0, 0], [0; 4]];
+    let site = three();
+    let small = smallest("preview_before_event", Case::Session { site, events });
+    let Case::Session { site, events } = small else {
+        panic!("another case");
+    };
+    assert_eq!((site.n, events.len()), (1, 1));
+
+    let (plant, event) = (Plant::fresh(&three()), [1, 1, 0, 0]);
+    let frame = vec![0xa5; 3 * 16 + 256];
+    let case = Case::Preview {
+        plant,
+        event,
+        frame,
+    };
+    let small = smallest("preview_length_as_a_byte", case);
+    let Case::Preview { plant, frame, .. } = small else {
+        panic!("another case");
+    };
+    assert_eq!((plant.site.n, frame), (1, vec![0; 16 + 256]));
 }

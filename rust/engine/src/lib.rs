@@ -1,4 +1,4 @@
-//! A level crossing protection plant: site book, plant, events, panel, event sheet.
+//! A level crossing protection plant: site book, plant, events, panel, preview, event sheet.
 //!
 //! Every call answers with one number: 0 when taken, otherwise a refusal from
 //! [`number`]. A refused call changes neither the plant nor a lent output.
@@ -7,6 +7,7 @@ pub mod book;
 pub mod crossing;
 pub mod events;
 pub mod panel;
+pub mod preview;
 mod program;
 pub mod range;
 pub mod sheet;
@@ -15,6 +16,7 @@ pub mod types;
 pub use book::{book_len, read_book, write_book};
 pub use events::{code, event};
 pub use panel::{draw, panel_len, PANEL};
+pub use preview::preview;
 pub use program::program;
 pub use range::in_range;
 pub use sheet::{run, sheet_parts};

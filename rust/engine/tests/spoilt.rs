@@ -10,6 +10,11 @@ fn spoilt(plant: &Plant, change: impl FnOnce(&mut Plant)) {
     change(&mut changed);
     common::refuse(&changed, [9, 0, 0, 1], 15);
     assert_eq!(engine::draw(&changed, &mut [0; 48]), 15);
+    for len in [0, 48, engine::panel_len(changed.site.n)] {
+        let mut bytes = vec![7; len];
+        assert_eq!(engine::preview(&changed, [9, 0, 0, 1], &mut bytes), (15, 0));
+        assert_eq!(bytes, vec![7; len]);
+    }
     let after = &mut changed.clone();
     assert_eq!(engine::run(after, &[0, 0], &mut [0; 48]).number, 15);
     assert_eq!(*after, changed);

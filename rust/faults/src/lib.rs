@@ -6,13 +6,17 @@ mod edit;
 
 use engine::{Plant, Run, Site};
 
-/// The five calls of one engine.
+/// A number and the trains written off.
+type Answer = (u8, u32);
+
+/// The six calls of one engine.
 #[derive(Clone, Copy)]
 pub struct Calls {
     pub read_book: fn(&[u8]) -> (u8, Plant),
     pub write_book: fn(&Site, &mut [u8]) -> u8,
-    pub event: fn(&mut Plant, [u8; 4]) -> (u8, u32),
+    pub event: fn(&mut Plant, [u8; 4]) -> Answer,
     pub draw: fn(&Plant, &mut [u8]) -> u8,
+    pub preview: fn(&Plant, [u8; 4], &mut [u8]) -> Answer,
     pub run: fn(&mut Plant, &[u8], &mut [u8]) -> Run,
 }
 
@@ -36,6 +40,7 @@ macro_rules! fault {
                 write_book: $name::book::write_book,
                 event: $name::events::event,
                 draw: $name::panel::draw,
+                preview: $name::preview::preview,
                 run: $name::sheet::run,
             },
         }

@@ -3,10 +3,11 @@
 use crate::booms::BoomBytes;
 use crate::flags::FlagBytes;
 use crate::lost_met::LostCounts;
+use crate::previewed::PreviewCounts;
 use crate::unsure::UnsureCounts;
 use engine::{boom, code, number, phase, Crossing, Plant, PANEL};
 
-/// The five calls.
+/// The six calls.
 #[derive(Clone, Copy, PartialEq, Debug)]
 pub enum Call {
     ReadBook,
@@ -14,12 +15,13 @@ pub enum Call {
     Event,
     Draw,
     Run,
+    Preview,
 }
 
 /// What was reached, and how often.
 #[derive(Clone, Default)]
 pub struct Coverage {
-    pub(crate) calls: [[u64; 16]; 5],
+    pub(crate) calls: [[u64; 16]; 6],
     pub(crate) codes: [[u64; 16]; 11],
     pub(crate) phases: [[u64; 5]; 5],
     pub(crate) moves: [[u64; 5]; 5],
@@ -27,10 +29,11 @@ pub struct Coverage {
     pub(crate) signals: [ByteCounts; 3],
     pub(crate) written_off: [u64; 3],
     pub(crate) panels: u64,
-    pub(crate) flags: [FlagBytes; 5],
-    pub(crate) booms: [BoomBytes; 5],
+    pub(crate) flags: [FlagBytes; 6],
+    pub(crate) booms: [BoomBytes; 6],
     pub(crate) unsure: UnsureCounts,
     pub(crate) lost: LostCounts,
+    pub(crate) previews: PreviewCounts,
 }
 
 /// How often a byte had each value.
@@ -44,7 +47,7 @@ impl Default for ByteCounts {
 }
 
 impl ByteCounts {
-    fn count(&mut self, byte: u8) {
+    pub(crate) fn count(&mut self, byte: u8) {
         self.0[usize::from(byte)] += 1;
     }
 
@@ -53,6 +56,20 @@ impl ByteCounts {
         let counts = (0..=255).zip(&self.0);
         counts.filter(|(b, _)| wished(*b)).map(|(_, n)| n).sum()
     }
+
+    /// How many values the byte had.
+    pub(crate) fn values(&self) -> u64 {
+        self.0.iter().filter(|count| **count > 0).count() as u64
+    }
+
+    pub(crate) fn add(&mut self, other: &ByteCounts) {
+        sums(&mut self.0, &other.0);
+    }
+}
+
+/// Adds other counts, one by one.
+pub(crate) fn sums(counts: &mut [u64], other: &[u64]) {
+    counts.iter_mut().zip(other).for_each(|(a, b)| *a += b);
 }
 
 /// 0 slow, 1 fast, 2 steady.
@@ -131,9 +148,20 @@ impl Coverage {
         }
     }
 
+    /// A preview answered so, and the lent panel after it.
+    pub fn preview(&mut self, plant: &Plant, e: [u8; 4], answer: (u8, u32), panel: &[u8]) {
+        self.call(Call::Preview, answer.0);
+        self.previews.preview(plant, e, answer, panel);
+    }
+
+    /// A preview within a list of events answered with `number`.
+    pub fn preview_in_list(&mut self, number: u8) {
+        self.call(Call::Preview, number);
+        self.previews.in_list(number);
+    }
+
     /// Adds what another run of cases reached.
     pub fn add(&mut self, other: &Coverage) {
-        let sums = |a: &mut [u64], b: &[u64]| a.iter_mut().zip(b).for_each(|(a, b)| *a += b);
         sums(self.calls.as_flattened_mut(), other.calls.as_flattened());
         sums(self.codes.as_flattened_mut(), other.codes.as_flattened());
         sums(self.phases.as_flattened_mut(), other.phases.as_flattened());
@@ -141,13 +169,14 @@ impl Coverage {
         sums(&mut self.written_off, &other.written_off);
         let bytes = self.bytes.iter_mut().zip(&other.bytes);
         let signals = self.signals.iter_mut().zip(&other.signals);
-        bytes.chain(signals).for_each(|(a, b)| sums(&mut a.0, &b.0));
+        bytes.chain(signals).for_each(|(a, b)| a.add(b));
         let flags = self.flags.iter_mut().zip(&other.flags);
         flags.for_each(|(a, b)| a.add(b));
         let booms = self.booms.iter_mut().zip(&other.booms);
         booms.for_each(|(a, b)| a.add(b));
         self.unsure.add(&other.unsure);
         self.lost.add(&other.lost);
+        self.previews.add(&other.previews);
         self.panels += other.panels;
     }
 }

@@ -1,5 +1,7 @@
 //! What a set of inputs should reach, and the table of it.
 
+mod previews;
+
 use crate::booms::BoomBytes;
 use crate::coverage::{Call, Coverage};
 use crate::flags::FlagBytes;
@@ -8,14 +10,15 @@ use crate::unsure::Met;
 use engine::{code, number, PANEL};
 use std::fmt::Write;
 
-const CALLS: [&str; 5] = ["read book", "write book", "event", "draw", "run"];
+const CALLS: [&str; 6] = ["read book", "write book", "event", "draw", "run", "preview"];
 /// The numbers each call can give.
-const CALL_NUMBERS: [&[u8]; 5] = [
+const CALL_NUMBERS: [&[u8]; 6] = [
     &[0, 1, 2, 3],
     &[0, 2, 3, 14],
     &[0, 5, 6, 7, 8, 10, 11, 12, 13, 15],
     &[0, 14, 15],
     &[0, 2, 4, 14, 15],
+    &[0, 5, 6, 7, 8, 10, 11, 12, 13, 14, 15],
 ];
 const SIGNALS: [&str; 4] = ["road", "boom lamps", "train signal", "distant"];
 const RHYTHMS: [&str; 3] = ["slow", "fast", "steady"];
@@ -38,7 +41,7 @@ const MOVES: [(u8, u8); 13] = [
     (4, 4),
 ];
 /// The calls that are handed a plant.
-const WITH_PLANT: [Call; 3] = [Call::Event, Call::Draw, Call::Run];
+const WITH_PLANT: [Call; 4] = [Call::Event, Call::Draw, Call::Run, Call::Preview];
 /// The crossings that have their bytes counted apart: of flags, and of boom reports.
 const USES: [&str; 2] = ["unused", "used"];
 const KINDS: [&str; 5] = ["unused", "kind 1", "kind 2", "kind 3", "kind 4"];
@@ -127,6 +130,7 @@ impl Coverage {
         goals.extend(self.phase_goals());
         goals.extend(self.unsure_goals());
         goals.extend(self.lost_goals());
+        goals.extend(self.preview_goals());
         goals.extend(self.rhythm_goals());
         goals.extend(self.bit_goals());
         goals.extend(self.byte_goals());

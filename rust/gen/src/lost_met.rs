@@ -1,5 +1,6 @@
 //! Counters of what was met at crossings with a boom's position lost (document 02, T-02).
 
+use crate::coverage::sums;
 use engine::crossing::{booms_down, has_reason, is_normal, is_secured};
 use engine::{boom, code, phase, Crossing, Entry};
 
@@ -118,7 +119,6 @@ impl LostCounts {
     }
 
     pub(crate) fn add(&mut self, other: &LostCounts) {
-        let sums = |a: &mut [u64], b: &[u64]| a.iter_mut().zip(b).for_each(|(a, b)| *a += b);
         sums(self.met.as_flattened_mut(), other.met.as_flattened());
         sums(self.phases.as_flattened_mut(), other.phases.as_flattened());
         sums(self.stops.as_flattened_mut(), other.stops.as_flattened());

@@ -14,11 +14,20 @@ const TICK: [u8; 4] = [code::TICK, 0, 0, 0];
 
 /// Coherent traffic from a plant in range, `len` events.
 pub fn coherent(rng: &mut Rng, plant: &Plant, len: usize) -> Vec<[u8; 4]> {
+    traffic(rng, plant, len).events
+}
+
+/// The plant after coherent traffic of `len` events.
+pub fn played(rng: &mut Rng, plant: &Plant, len: usize) -> Plant {
+    traffic(rng, plant, len).plant
+}
+
+fn traffic<'a>(rng: &'a mut Rng, plant: &Plant, len: usize) -> List<'a> {
     let mut list = List::new(rng, plant, len);
     while list.has_room() {
         list.burst();
     }
-    list.events
+    list
 }
 
 /// Any events of the table with junk between, `len` events.

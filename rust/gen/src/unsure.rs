@@ -1,5 +1,6 @@
 //! Counters of what was met at crossings with a full or an unsure track (document 02, T-01).
 
+use crate::coverage::sums;
 use crate::swept::trains;
 use engine::crossing::{has_reason, is_held};
 use engine::{code, phase, Crossing, Entry};
@@ -103,7 +104,6 @@ impl UnsureCounts {
     }
 
     pub(crate) fn add(&mut self, other: &UnsureCounts) {
-        let sums = |a: &mut [u64], b: &[u64]| a.iter_mut().zip(b).for_each(|(a, b)| *a += b);
         sums(self.met.as_flattened_mut(), other.met.as_flattened());
         sums(self.phases.as_flattened_mut(), other.phases.as_flattened());
     }

@@ -1,11 +1,11 @@
 //! The generators give what their names say, and the same on every machine.
 
-use engine::{book_len, draw, event, in_range, number, panel_len, read_book, run};
+use engine::{book_len, draw, event, in_range, number, panel_len, preview, read_book, run};
 use gen::{
     book, book_bytes, coherent, damaged_book, damaged_sheet, every_boom, every_flag, junk_event,
-    lost_plants, lost_reports, mixed, plant, quick_site, sheet_bytes, sheet_events, site,
-    spoilt_plant, swept_event, swept_grid, swept_plant, BookDamage, Call, Coverage, Rng,
-    SheetDamage, Spoil,
+    lost_plants, lost_reports, mixed, plant, played, preview_grid, quick_site, sheet_bytes,
+    sheet_events, site, spoilt_plant, swept_event, swept_grid, swept_plant, BookDamage, Call,
+    Coverage, Rng, SheetDamage, Spoil,
 };
 
 #[test]
@@ -126,6 +126,33 @@ fn the_lost_grid_meets_everything() {
     let mut left = seen.missing().into_iter();
     let of_grid = |s: &String| s.starts_with("lost") || s.starts_with("refused");
     assert_eq!(left.find(of_grid), None);
+}
+
+/// Previews, without a list before them.
+#[test]
+fn the_preview_grid_meets_everything() {
+    let mut seen = Coverage::new();
+    for (plant, e, len) in preview_grid() {
+        let mut panel = vec![0xa5; len];
+        let answer = preview(&plant, e, &mut panel);
+        seen.preview(&plant, e, answer, &panel);
+    }
+    let left = seen.missing().into_iter();
+    let mut left = left.filter(|s| s.starts_with("preview") && !s.starts_with("preview in a list"));
+    assert_eq!(left.next(), None);
+}
+
+/// The events of coherent traffic lead to the plant after it.
+#[test]
+fn played_plants_are_those_after_their_events() {
+    for index in 0..20 {
+        let fresh = engine::Plant::fresh(&quick_site(&mut Rng::new(index)));
+        let mut plant = fresh;
+        for e in coherent(&mut Rng::new(index), &fresh, 300) {
+            event(&mut plant, e);
+        }
+        assert_eq!(played(&mut Rng::new(index), &fresh, 300), plant);
+    }
 }
 
 #[test]

@@ -1,4 +1,4 @@
-//! The proved engine's five calls; include/wilzhoram.h says what each does. The types are
+//! The proved engine's six calls; include/wilzhoram.h says what each does. The types are
 //! laid out as there, and every byte pattern is a value of each: what is out of range, the
 //! calls refuse.
 
@@ -87,6 +87,15 @@ pub struct Answer {
     pub plant: Plant,
 }
 
+/// What a preview gives; no plant comes back.
+#[repr(C)]
+#[derive(Clone, Copy, PartialEq, Debug)]
+pub struct Preview {
+    pub number: u8,
+    /// Trains that the event would write off.
+    pub written: u32,
+}
+
 /// What a sheet run gives.
 #[repr(C)]
 #[derive(Clone, Copy, PartialEq, Debug)]
@@ -101,13 +110,19 @@ pub struct Run {
 
 /// A slice goes as its first byte and its length.
 mod c {
-    use super::{Answer, Event, Plant, Reading, Run, Site};
+    use super::{Answer, Event, Plant, Preview, Reading, Run, Site};
 
     extern "C" {
         pub fn wilzhoram_read(book: *const u8, length: usize) -> Reading;
         pub fn wilzhoram_write(site: Site, book: *mut u8, length: usize) -> u8;
         pub fn wilzhoram_event(plant: Plant, event: Event) -> Answer;
         pub fn wilzhoram_draw(plant: Plant, panel: *mut u8, length: usize) -> u8;
+        pub fn wilzhoram_preview(
+            plant: Plant,
+            event: Event,
+            panel: *mut u8,
+            length: usize,
+        ) -> Preview;
         pub fn wilzhoram_run(
             plant: Plant,
             sheet: *const u8,
@@ -140,6 +155,12 @@ pub fn event(plant: Plant, event: Event) -> Answer {
 pub fn draw(plant: Plant, panel: &mut [u8]) -> u8 {
     // SAFETY: as in `read`.
     unsafe { c::wilzhoram_draw(plant, panel.as_mut_ptr(), panel.len()) }
+}
+
+/// Draws the panel that one event would give, and applies nothing (T-03).
+pub fn preview(plant: Plant, event: Event, panel: &mut [u8]) -> Preview {
+    // SAFETY: as in `read`.
+    unsafe { c::wilzhoram_preview(plant, event, panel.as_mut_ptr(), panel.len()) }
 }
 
 /// Applies each event of a sheet in turn and draws the panel after the last.
