@@ -3,7 +3,7 @@
  * Every call ends on every input and answers with a number: 0 taken, otherwise a refusal of the table in README.md.
  * A refused call gives back the plant it was given and zero counts, and leaves every lent byte as it was.
  * Every field of a plant, settings or event may hold any value: a plant with one outside its range is number 15,
- * settings to write 2 or 3, an event 5 to 8. Padding bytes are no part of a plant: they count nowhere and are not kept.
+ * settings to write 2 or 3, an event 5 to 8; so may a sender, 16 (T-04). Padding bytes are no part of a plant: they count nowhere and are not kept.
  * Number 9, full track, occurs nowhere: a strike-in at 255 trains is taken (T-01, docs/notes/T-01.md).
  * A null pointer with length 0 is an empty slice and gets its number. A sheet and a panel must not overlap.
  * Every call is reentrant, keeps no state and allocates nothing. */
@@ -60,6 +60,14 @@ typedef struct {
     wilzhoram_crossing crossings[8];
 } wilzhoram_plant;
 
+/* Senders (T-04, docs/notes/T-04.md): who gives an event or looks at the panel. What each may send and sees is a table of
+ * README.md: an event without the right is number 17, and a byte that a sender does not see is drawn as 0. A sheet has no
+ * sender: a run has every right, and its panel every byte. */
+#define WILZHORAM_SENDER_DETECTION 0
+#define WILZHORAM_SENDER_KIOSK 1
+#define WILZHORAM_SENDER_OPERATOR 2 /* local operator */
+#define WILZHORAM_SENDER_CENTRE 3   /* remote centre */
+
 /* An event: any four bytes. */
 typedef struct {
     uint8_t code, crossing, place, value;
@@ -98,15 +106,16 @@ wilzhoram_reading wilzhoram_read(const uint8_t *book, size_t length);
 /* Writes settings as a site book of 1 + 7n bytes: 0, or number 2, 3 or 14. */
 uint8_t wilzhoram_write(wilzhoram_site site, uint8_t *book, size_t length);
 
-/* Applies one event: the plant after it, or number 5 to 8, 10 to 13 or 15. */
-wilzhoram_answer wilzhoram_event(wilzhoram_plant plant, wilzhoram_event_bytes event);
+/* Applies one event of a sender: the plant after it, or number 5 to 8, 10 to 13 or 15 to 17. */
+wilzhoram_answer wilzhoram_event(wilzhoram_plant plant, uint8_t sender, wilzhoram_event_bytes event);
 
-/* Draws the panel of 16n bytes: 0, or number 14 or 15. */
-uint8_t wilzhoram_draw(wilzhoram_plant plant, uint8_t *panel, size_t length);
+/* Draws the panel of 16n bytes as a sender sees it: 0, or number 14 to 16. */
+uint8_t wilzhoram_draw(wilzhoram_plant plant, uint8_t sender, uint8_t *panel, size_t length);
 
-/* Looks before an event (T-03, docs/notes/T-03.md): its number and written-off count, and in the panel of 16n bytes what a
- * drawing after it would give; the plant is not moved on. 15, then 14, then the event's own numbers. */
-wilzhoram_preview_result wilzhoram_preview(wilzhoram_plant plant, wilzhoram_event_bytes event, uint8_t *panel, size_t length);
+/* Looks before an event of a sender (T-03, docs/notes/T-03.md): its number and written-off count, and in the panel of 16n
+ * bytes what a drawing after it would give that sender; the plant is not moved on. 15, 16, 14, then the event's own numbers. */
+wilzhoram_preview_result wilzhoram_preview(wilzhoram_plant plant, uint8_t sender, wilzhoram_event_bytes event, uint8_t *panel,
+                                           size_t length);
 
 /* Applies each event of a sheet in turn and draws the panel after the last: 0, or number 2, 4, 14 or 15. */
 wilzhoram_run_result wilzhoram_run(wilzhoram_plant plant, const uint8_t *sheet, size_t sheet_length, uint8_t *panel,

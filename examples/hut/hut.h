@@ -22,11 +22,11 @@ static void print_panel(const uint8_t *panel, size_t length) {
     }
 }
 
-/* Draws the panel of a plant and prints it. */
-static int show(wilzhoram_plant plant) {
+/* Draws the panel of a plant as a sender sees it (document 02, T-04) and prints it. */
+static int show(wilzhoram_plant plant, uint8_t sender) {
     uint8_t panel[16 * 8];
     size_t length = 16 * (size_t)plant.site.n;
-    if (refused(wilzhoram_draw(plant, panel, length)))
+    if (refused(wilzhoram_draw(plant, sender, panel, length)))
         return 1;
     print_panel(panel, length);
     return 0;

@@ -6,9 +6,9 @@ int main(void) {
     static const uint8_t book[] = {2, 3, 1, 0, 4, 2, 2, 2, 0, 0, 0, 30, 0, 18, 0};
     const wilzhoram_event_bytes strike_in = {1, 0, 0, 0};
     wilzhoram_reading site = wilzhoram_read(book, sizeof book);
-    if (refused(site.number) || show(site.plant))
+    if (refused(site.number) || show(site.plant, WILZHORAM_SENDER_DETECTION))
         return 1;
-    wilzhoram_answer answer = wilzhoram_event(site.plant, strike_in);
+    wilzhoram_answer answer = wilzhoram_event(site.plant, WILZHORAM_SENDER_DETECTION, strike_in);
     printf("strike-in: number %u, written off %u\n", answer.number, (unsigned)answer.written);
-    return show(answer.plant);
+    return show(answer.plant, WILZHORAM_SENDER_DETECTION);
 }

@@ -5,7 +5,7 @@
 #include "wilzhoram.h"
 #include <stdbool.h>
 
-enum { BOOK_MOST = 1 + 7 * 8, SHEET_MOST = 2 + 4 * 4096, PANEL_MOST = 16 * 8, SPOILT = 15 };
+enum { BOOK_MOST = 1 + 7 * 8, SHEET_MOST = 2 + 4 * 4096, PANEL_MOST = 16 * 8, SPOILT = 15, UNKNOWN = 16, NUMBERS = 18 };
 
 /* range.c: document 01, "Site book" and "What the plant holds"; document 02, T-01. */
 unsigned settings_number(const wilzhoram_site *site); /* 0, 2 or 3 */
@@ -18,6 +18,8 @@ void random_bytes(void *at, size_t length);
 size_t random_book(uint8_t *book, unsigned n);
 wilzhoram_plant random_fresh(unsigned n);
 wilzhoram_event_bytes random_event(unsigned n);
+uint8_t who_may(uint8_t code);
+uint8_t random_sender(uint8_t code);
 size_t random_sheet(uint8_t *sheet, unsigned events, unsigned n);
 void change(wilzhoram_plant *plant); /* one to three bytes, padding included */
 
@@ -25,7 +27,7 @@ void change(wilzhoram_plant *plant); /* one to three bytes, padding included */
 typedef struct {
     const char *name;
     unsigned may;
-    unsigned long met[16];
+    unsigned long met[NUMBERS];
 } tally;
 
 extern tally of_read, of_write, of_event, of_draw, of_preview, of_run;

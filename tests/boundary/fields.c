@@ -25,7 +25,7 @@ static void begin(void) {
 /* A taken event at crossing 1 (a tick: of the plant): the plant after it is the one wanted. */
 static void play(unsigned code, unsigned place, unsigned value, uint32_t written) {
     wilzhoram_event_bytes event = {(uint8_t)code, code != 0, (uint8_t)place, (uint8_t)value};
-    wilzhoram_answer answer = wilzhoram_event(plant, event);
+    wilzhoram_answer answer = wilzhoram_event(plant, who_may(event.code), event);
     events++;
     if (answer.number != 0 || answer.written != written || !same_plant(&answer.plant, &wanted))
         fail("fields: event %u, code %u, place %u, value %u: number %u, written off %u, or another plant", events, code,

@@ -50,6 +50,20 @@ wilzhoram_event_bytes random_event(unsigned n) {
     return (wilzhoram_event_bytes){bytes[0], bytes[1], bytes[2], bytes[3]};
 }
 
+/* One that may send the code, whatever the value (document 02, T-04). */
+uint8_t who_may(uint8_t code) {
+    if (code == 4 || code == 7)
+        return WILZHORAM_SENDER_OPERATOR;
+    return code == 3 ? WILZHORAM_SENDER_KIOSK : WILZHORAM_SENDER_DETECTION;
+}
+
+/* Most of the time one that may send the code; in one of four any of the four senders, in one of sixteen any number. */
+uint8_t random_sender(uint8_t code) {
+    if (below(16) == 0)
+        return (uint8_t)below(256);
+    return below(4) == 0 ? (uint8_t)below(4) : who_may(code);
+}
+
 size_t random_sheet(uint8_t *sheet, unsigned events, unsigned n) {
     uint8_t *codes = sheet + 2, *triples = codes + events;
     sheet[0] = (uint8_t)events;

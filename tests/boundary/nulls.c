@@ -21,15 +21,18 @@ static void expect_run(const wilzhoram_plant *plant, const uint8_t *sheet, size_
         fail("run: number %u with a lent byte changed", run.number);
 }
 
-/* T-03: a tick, an unknown code, a passage with no train: the plant comes first, then the frame, whatever the event. */
+/* T-03, T-04: a tick, an unknown code, a passage with no train: the plant comes first, then the sender, then the frame, whatever the
+ * event. */
 static void previews(const wilzhoram_plant *plant, const wilzhoram_plant *spoilt) {
     static const wilzhoram_event_bytes events[] = {{0, 0, 0, 0}, {10, 0, 0, 0}, {2, 0, 0, 0}};
     for (size_t i = 0; i < sizeof events / sizeof events[0]; i++) {
-        wilzhoram_preview_result framed = wilzhoram_preview(*plant, events[i], NULL, 0);
-        wilzhoram_preview_result refused = wilzhoram_preview(*spoilt, events[i], NULL, 0);
+        wilzhoram_preview_result framed = wilzhoram_preview(*plant, 0, events[i], NULL, 0);
+        wilzhoram_preview_result unknown = wilzhoram_preview(*plant, 4, events[i], NULL, 0);
+        wilzhoram_preview_result refused = wilzhoram_preview(*spoilt, 4, events[i], NULL, 0);
         expect("preview", framed.number, 14);
+        expect("preview", unknown.number, UNKNOWN);
         expect("preview", refused.number, SPOILT);
-        if (framed.written != 0 || refused.written != 0)
+        if (framed.written != 0 || unknown.written != 0 || refused.written != 0)
             fail("preview: refused with a count");
     }
 }
@@ -60,8 +63,9 @@ int main(void) {
     expect("write", wilzhoram_write(plant.site, NULL, 0), 14);
     expect("write", wilzhoram_write(zero.site, NULL, 0), 2);
     expect("write", wilzhoram_write(wrong, NULL, 0), 3);
-    expect("draw", wilzhoram_draw(plant, NULL, 0), 14);
-    expect("draw", wilzhoram_draw(spoilt, NULL, 0), SPOILT);
+    expect("draw", wilzhoram_draw(plant, 3, NULL, 0), 14);
+    expect("draw", wilzhoram_draw(plant, 4, NULL, 0), UNKNOWN);
+    expect("draw", wilzhoram_draw(spoilt, 4, NULL, 0), SPOILT);
     previews(&plant, &spoilt);
     runs(&plant, &spoilt);
     printf("boundary: %u calls with a null pointer of length 0, each with its number\n", calls);

@@ -1,12 +1,12 @@
 /* Plants of any bytes, handed to every call that takes a plant or its settings. Half are random bytes throughout; half come
  * from a book by random events, with one to three bytes changed, so that plants in range are met as well. And plants with
- * every value of each unsure flag. Each answer is compared with what document 01, amended by T-01, gives; which number of 5
- * to 8 and 10 to 13 an event in range gets is left to ci/compare. */
+ * every value of each unsure flag. Each answer is compared with what document 01, amended by T-01 and T-04, gives; which number
+ * of 5 to 8, 10 to 13 and 17 an event in range gets is left to ci/compare. */
 #include "boundary.h"
 #include <stdio.h>
 #include <string.h>
 
-enum { PLANTS = 100000, LIFE = 200, EDGE = 32, LENT = 160, EVENTS = 12, EVENTS_OWN = 16 };
+enum { PLANTS = 100000, LIFE = 200, EDGE = 32, LENT = 160, EVENTS = 12, EVENTS_OWN = 32 };
 
 /* What a call gave, with the edges before and after the lent bytes. */
 typedef struct {
@@ -18,24 +18,25 @@ typedef struct {
 
 /* The inputs beside the plant, and the lent bytes before every call. */
 static wilzhoram_event_bytes event;
+static uint8_t sender;
 static uint8_t sheet[2 + 4 * EVENTS], before[EDGE + LENT + EDGE];
 static size_t sheet_length, lent_length;
 
 static size_t padding[sizeof(wilzhoram_plant)], paddings; /* the plant's bytes that no field has */
 
 static void call_event(const wilzhoram_plant *plant, outcome *out) {
-    wilzhoram_answer answer = wilzhoram_event(*plant, event);
+    wilzhoram_answer answer = wilzhoram_event(*plant, sender, event);
     out->number = answer.number;
     out->written = answer.written;
     out->plant = answer.plant;
 }
 
 static void call_draw(const wilzhoram_plant *plant, outcome *out) {
-    out->number = wilzhoram_draw(*plant, out->lent + EDGE, lent_length);
+    out->number = wilzhoram_draw(*plant, sender, out->lent + EDGE, lent_length);
 }
 
 static void call_preview(const wilzhoram_plant *plant, outcome *out) {
-    wilzhoram_preview_result preview = wilzhoram_preview(*plant, event, out->lent + EDGE, lent_length);
+    wilzhoram_preview_result preview = wilzhoram_preview(*plant, sender, event, out->lent + EDGE, lent_length);
     out->number = preview.number;
     out->written = preview.written;
 }
@@ -59,12 +60,18 @@ static void call_write(const wilzhoram_plant *plant, outcome *out) {
     out->number = wilzhoram_write(plant->site, out->lent + EDGE, lent_length);
 }
 
+/* T-04: the plant, then the sender. EVENTS_OWN: any number but 14 to 16. */
 static unsigned event_number(const wilzhoram_plant *plant) {
-    return in_range(plant) ? EVENTS_OWN : SPOILT; /* EVENTS_OWN: any number but 14 and 15 */
+    return !in_range(plant) ? SPOILT : sender > WILZHORAM_SENDER_CENTRE ? UNKNOWN : EVENTS_OWN;
+}
+
+static unsigned frame_number(const wilzhoram_plant *plant) {
+    return lent_length == 16 * (size_t)plant->site.n ? 0 : 14;
 }
 
 static unsigned draw_number(const wilzhoram_plant *plant) {
-    return !in_range(plant) ? SPOILT : lent_length == 16 * (size_t)plant->site.n ? 0 : 14;
+    unsigned number = event_number(plant);
+    return number != EVENTS_OWN ? number : frame_number(plant);
 }
 
 /* T-03: the numbers of a drawing, then the event's. */
@@ -80,7 +87,7 @@ static unsigned run_number(const wilzhoram_plant *plant) {
         return 4;
     if (sheet_size() > 4096)
         return 2;
-    return sheet_length == 2 + 4 * sheet_size() ? draw_number(plant) : 4;
+    return sheet_length == 2 + 4 * sheet_size() ? frame_number(plant) : 4;
 }
 
 static unsigned write_number(const wilzhoram_plant *plant) {
@@ -110,8 +117,8 @@ _Noreturn static void wrong(const trial *t, const wilzhoram_plant *plant, unsign
 
 static void check_number(const trial *t, const wilzhoram_plant *plant, unsigned number, unsigned wanted) {
     char words[32];
-    if (wanted == EVENTS_OWN && (number == 14 || number == SPOILT))
-        wrong(t, plant, number, "but plant and frame are right");
+    if (wanted == EVENTS_OWN && 14 <= number && number <= UNKNOWN)
+        wrong(t, plant, number, "but plant, sender and frame are right");
     if (wanted == EVENTS_OWN || number == wanted)
         return;
     snprintf(words, sizeof words, "%u expected", wanted);
@@ -157,6 +164,7 @@ static void try_call(const trial *t, const wilzhoram_plant *plant, wilzhoram_pla
 static void choose_inputs(const wilzhoram_plant *plant, size_t right) {
     unsigned n = 1 + below(8), used = plant->site.n >= 1 && plant->site.n <= 8 ? plant->site.n : n;
     event = random_event(used);
+    sender = random_sender(event.code);
     sheet_length = random_sheet(sheet, below(EVENTS + 1), used);
     if (below(4) == 0)
         sheet_length = below(sizeof sheet + 1);

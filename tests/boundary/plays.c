@@ -11,9 +11,9 @@ unsigned met;
 typedef struct {
     wilzhoram_reading (*read)(const uint8_t *, size_t);
     uint8_t (*write)(wilzhoram_site, uint8_t *, size_t);
-    wilzhoram_answer (*event)(wilzhoram_plant, wilzhoram_event_bytes);
-    uint8_t (*draw)(wilzhoram_plant, uint8_t *, size_t);
-    wilzhoram_preview_result (*preview)(wilzhoram_plant, wilzhoram_event_bytes, uint8_t *, size_t);
+    wilzhoram_answer (*event)(wilzhoram_plant, uint8_t, wilzhoram_event_bytes);
+    uint8_t (*draw)(wilzhoram_plant, uint8_t, uint8_t *, size_t);
+    wilzhoram_preview_result (*preview)(wilzhoram_plant, uint8_t, wilzhoram_event_bytes, uint8_t *, size_t);
     wilzhoram_run_result (*run)(wilzhoram_plant, const uint8_t *, size_t, uint8_t *, size_t);
 } engine;
 
@@ -27,19 +27,19 @@ static uint8_t idle_write(wilzhoram_site site, uint8_t *book, size_t length) {
     return site.n == 0 && book == NULL && length == 0;
 }
 
-static wilzhoram_answer idle_event(wilzhoram_plant plant, wilzhoram_event_bytes event) {
+static wilzhoram_answer idle_event(wilzhoram_plant plant, uint8_t sender, wilzhoram_event_bytes event) {
     wilzhoram_answer answer;
-    answer.number = plant.beat == event.code;
+    answer.number = plant.beat == event.code && sender == 0;
     return answer;
 }
 
-static uint8_t idle_draw(wilzhoram_plant plant, uint8_t *panel, size_t length) {
-    return plant.beat == 0 && panel == NULL && length == 0;
+static uint8_t idle_draw(wilzhoram_plant plant, uint8_t sender, uint8_t *panel, size_t length) {
+    return plant.beat == sender && panel == NULL && length == 0;
 }
 
-static wilzhoram_preview_result idle_preview(wilzhoram_plant plant, wilzhoram_event_bytes event, uint8_t *panel,
-                                             size_t length) {
-    wilzhoram_preview_result preview = {plant.beat == event.code && panel == NULL && length == 0, 0};
+static wilzhoram_preview_result idle_preview(wilzhoram_plant plant, uint8_t sender, wilzhoram_event_bytes event,
+                                             uint8_t *panel, size_t length) {
+    wilzhoram_preview_result preview = {plant.beat == event.code && sender == 0 && panel == NULL && length == 0, 0};
     return preview;
 }
 
@@ -74,26 +74,35 @@ enum { EVENTS = 11 * 9 * 6 * 4 };
 #define EVENT(at) \
     ((wilzhoram_event_bytes){(uint8_t)((at) % 11), (uint8_t)((at) / 11 % 9), (uint8_t)((at) / 99 % 6), (uint8_t)((at) / 594)})
 
+/* The four senders (T-04), and one beyond them. */
+enum { SENDERS = WILZHORAM_SENDER_CENTRE + 2 };
+
 static void play_event(void) {
     for (int i = 0; i < PLANTS; i++)
         for (unsigned at = 0; at < EVENTS; at++)
-            met |= 1u << (now->event(plants[i], EVENT(at)).number & 31);
+            for (uint8_t sender = 0; sender < SENDERS; sender++)
+                met |= 1u << (now->event(plants[i], sender, EVENT(at)).number & 31);
 }
 
 static void play_draw(void) {
     for (int i = 0; i < PLANTS; i++)
         for (size_t length = 0; length <= PANEL_MOST; length++)
-            met |= 1u << (now->draw(plants[i], lent, length) & 31);
+            for (uint8_t sender = 0; sender < SENDERS; sender++)
+                met |= 1u << (now->draw(plants[i], sender, lent, length) & 31);
 }
 
 /* Each event with a right frame, and every frame with an event. */
+static void preview_for(const wilzhoram_plant *plant, uint8_t sender) {
+    for (unsigned at = 0; at < EVENTS; at++)
+        met |= 1u << (now->preview(*plant, sender, EVENT(at), lent, 16 * (size_t)(plant->site.n % 9)).number & 31);
+    for (size_t length = 0; length <= PANEL_MOST; length++)
+        met |= 1u << (now->preview(*plant, sender, EVENT(length), lent, length).number & 31);
+}
+
 static void play_preview(void) {
-    for (int i = 0; i < PLANTS; i++) {
-        for (unsigned at = 0; at < EVENTS; at++)
-            met |= 1u << (now->preview(plants[i], EVENT(at), lent, 16 * (size_t)(plants[i].site.n % 9)).number & 31);
-        for (size_t length = 0; length <= PANEL_MOST; length++)
-            met |= 1u << (now->preview(plants[i], EVENT(length), lent, length).number & 31);
-    }
+    for (int i = 0; i < PLANTS; i++)
+        for (uint8_t sender = 0; sender < SENDERS; sender++)
+            preview_for(&plants[i], sender);
 }
 
 static void play_run(void) {

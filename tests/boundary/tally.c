@@ -1,4 +1,5 @@
-/* The numbers of each call (document 01, "Numbers at the hut"; document 02, T-01, for 9, T-03 for the preview), and which were met. */
+/* The numbers of each call (document 01, "Numbers at the hut"; document 02, T-01 for 9, T-03 for the preview, T-04 for 16 and 17), and
+ * which were met. */
 #include "boundary.h"
 #include <stdarg.h>
 #include <stdio.h>
@@ -6,9 +7,9 @@
 
 tally of_read = {"read", 1u | 1u << 1 | 1u << 2 | 1u << 3, {0}};
 tally of_write = {"write", 1u | 1u << 2 | 1u << 3 | 1u << 14, {0}};
-tally of_event = {"event", 1u | 0xfu << 5 | 0xfu << 10 | 1u << 15, {0}}; /* 5 to 8 and 10 to 13 */
-tally of_draw = {"draw", 1u | 1u << 14 | 1u << 15, {0}};
-tally of_preview = {"preview", 1u | 0xfu << 5 | 0x3fu << 10, {0}}; /* 5 to 8 and 10 to 15 */
+tally of_event = {"event", 1u | 0xfu << 5 | 0xfu << 10 | 7u << 15, {0}}; /* 5 to 8, 10 to 13 and 15 to 17 */
+tally of_draw = {"draw", 1u | 7u << 14, {0}};                            /* 14 to 16 */
+tally of_preview = {"preview", 1u | 0xfu << 5 | 0xffu << 10, {0}};       /* 5 to 8 and 10 to 17 */
 tally of_run = {"run", 1u | 1u << 2 | 1u << 4 | 1u << 14 | 1u << 15, {0}};
 
 void fail(const char *format, ...) {
@@ -22,13 +23,13 @@ void fail(const char *format, ...) {
 }
 
 void answered(tally *call, unsigned number) {
-    if (number > 15 || !(call->may >> number & 1))
+    if (number >= NUMBERS || !(call->may >> number & 1))
         fail("%s: number %u, which is none of its numbers", call->name, number);
     call->met[number]++;
 }
 
 void all_met(const tally *call, unsigned numbers) {
-    for (unsigned number = 0; number < 16; number++)
+    for (unsigned number = 0; number < NUMBERS; number++)
         if (call->may >> number & ~numbers >> number & 1)
             fail("%s: number %u was never met", call->name, number);
 }
@@ -36,7 +37,7 @@ void all_met(const tally *call, unsigned numbers) {
 void print_tally(const tally *call) {
     unsigned long other = 0;
     unsigned numbers = 0;
-    for (unsigned number = 0; number < 16; number++) {
+    for (unsigned number = 0; number < NUMBERS; number++) {
         numbers |= (call->met[number] != 0) << number;
         other += number == 0 || number == SPOILT ? 0 : call->met[number];
     }

@@ -3,11 +3,10 @@ use mathlib.Core.Path.{_≡_, refl}
 use mathlib.Core.List.{List, [], _∷_, _++_}
 use Prim.Native.Nat.{ℕ}
 use lib.ListN.{getD}
-use Rattle.machine.specs.declared.Event.{Event}
 use Rattle.machine.specs.Reports.{up, moving, down}
 use Rattle.machine.specs.Plant.{crossing, fresh-plant, dependent, reason, booms-up, booms-down, booms-closed, normal, secured}
 use Rattle.machine.specs.Range.{entry-in, entry-zero, track-in, phase-in, crossing-in, crossing-zero, place-in, in-range}
-use Rattle.machine.specs.Events.{place-limit, value-limit, refusal, number}
+use Rattle.machine.specs.Events.{Command, is-known, entitled, place-limit, value-limit, refusal, number}
 use Rattle.machine.specs.Effects.{calling-after, waiting-after, unsure-after, cancels, act, phase-ticked, timer-ticked, tick, written-at}
 use Rattle.machine.specs.Settling.{phase-settled, timer-settled, out-settled, settle}
 use Rattle.machine.specs.Step.{touch, apply, written, step, after, carried}
@@ -17,23 +16,23 @@ use Rattle.chart.proofs.Words.{ev, a-tick, strike-in, passage, site, sh
 use Rattle.chart.proofs.Release.{carried-269, carried-270, phase-270}
 
 -- bytes 10 and 6: phase and train signal
-abbrev phase-signal : List ℕ → List Event → List ℕ
+abbrev phase-signal : List ℕ → List Command → List ℕ
 phase-signal book es = getD (shown book es) 10 0 ∷ getD (shown book es) 6 0 ∷ []
 
 -- both booms report
-abbrev reports : ℕ → ℕ → List Event
+abbrev reports : ℕ → ℕ → List Command
 reports a b = ev 8 0 a ∷ ev 8 1 b ∷ []
 
 -- a strike-in, then two ticks: phase 3
-abbrev closing : List Event
+abbrev closing : List Command
 closing = strike-in ∷ a-tick ∷ a-tick ∷ []
 
 -- the program's case
-abbrev closed : List Event
+abbrev closed : List Command
 closed = closing ++ reports down down
 
 -- bytes 14, 12 and 10: waiting, calling and phase
-abbrev queue-phase : List ℕ → List Event → List ℕ
+abbrev queue-phase : List ℕ → List Command → List ℕ
 queue-phase book es = getD (shown book es) 14 0 ∷ getD (shown book es) 12 0 ∷ getD (shown book es) 10 0 ∷ []
 
 pub record Chart : Type 0 where
@@ -58,7 +57,7 @@ pub record Chart : Type 0 where
   pub released : getD (shown (site 1 0) (release 270)) 10 0 ≡ 0
 
 pub chart : Chart
-unfolding fresh-plant dependent reason booms-up booms-down booms-closed normal secured entry-in entry-zero track-in phase-in crossing-in crossing-zero place-in in-range place-limit value-limit refusal number calling-after waiting-after unsure-after cancels act phase-ticked timer-ticked tick written-at phase-settled timer-settled out-settled settle touch apply written step after carried road signal distant rhythm lit bell boom-lamps right-down left-down released releases-shown status holds row panel book-entry book-site read-number read
+unfolding fresh-plant dependent reason booms-up booms-down booms-closed normal secured entry-in entry-zero track-in phase-in crossing-in crossing-zero place-in in-range is-known entitled place-limit value-limit refusal number calling-after waiting-after unsure-after cancels act phase-ticked timer-ticked tick written-at phase-settled timer-settled out-settled settle touch apply written step after carried road signal distant rhythm lit bell boom-lamps right-down left-down released releases-shown status holds row panel book-entry book-site read-number read
 chart = record {
   fresh = refl;
   program = refl;

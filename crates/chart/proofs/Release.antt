@@ -7,11 +7,10 @@ use lib.ListN.{getD}
 use Rattle.machine.specs.Common.{tab}
 use Rattle.machine.specs.declared.Crossing.{Crossing}
 use Rattle.machine.specs.declared.Plant.{Plant}
-use Rattle.machine.specs.declared.Event.{Event}
 use Rattle.machine.specs.Reports.{up}
 use Rattle.machine.specs.Plant.{no-crossing, fresh-plant, dependent, reason, booms-up, booms-down, booms-closed, normal, secured}
 use Rattle.machine.specs.Range.{entry-in, entry-zero, track-in, phase-in, crossing-in, crossing-zero, place-in, in-range}
-use Rattle.machine.specs.Events.{place-limit, value-limit, refusal, number}
+use Rattle.machine.specs.Events.{Command, is-known, entitled, place-limit, value-limit, refusal, number}
 use Rattle.machine.specs.Effects.{calling-after, waiting-after, unsure-after, cancels, act, phase-ticked, timer-ticked, tick, written-at}
 use Rattle.machine.specs.Settling.{phase-settled, timer-settled, out-settled, settle}
 use Rattle.machine.specs.Step.{touch, apply, written, step, after, carried}
@@ -24,21 +23,21 @@ pub record Played : Type 0 where
   pub plant : Plant
   pub carries : ℕ
 
-unfoldable played : Plant → ℕ → List Event → Played
+unfoldable played : Plant → ℕ → List Command → Played
 played p n [] = record { plant = p; carries = n }
 played p n (e ∷ es) = let a = step p e in played (a .plant) (n + a .written) es
 
-played-plant : (p : Plant) (n : ℕ) (es : List Event) → played p n es .plant ≡ after p es
+played-plant : (p : Plant) (n : ℕ) (es : List Command) → played p n es .plant ≡ after p es
 unfolding played after
 played-plant p n [] = refl
 played-plant p n (e ∷ es) = played-plant (step p e .plant) (n + step p e .written) es
 
-played-carries : (p : Plant) (n : ℕ) (es : List Event) → played p n es .carries ≡ n + carried p es
+played-carries : (p : Plant) (n : ℕ) (es : List Command) → played p n es .carries ≡ n + carried p es
 unfolding played carried
 played-carries p n [] = omega arith
 played-carries p n (e ∷ es) = let h = played-carries (step p e .plant) (n + step p e .written) es in omega arith
 
-played-append : (p : Plant) (n : ℕ) (es fs : List Event) → played p n (es ++ fs) ≡ played (played p n es .plant) (played p n es .carries) fs
+played-append : (p : Plant) (n : ℕ) (es fs : List Command) → played p n (es ++ fs) ≡ played (played p n es .plant) (played p n es .carries) fs
 unfolding played
 played-append p n [] fs = refl
 played-append p n (e ∷ es) fs = played-append (step p e .plant) (n + step p e .written) es fs
@@ -81,7 +80,7 @@ record Computed : Type 0 where
   pub phase : getD (panel (ended .plant)) 10 0 ≡ 0
 
 computed : Computed
-unfolding fresh-plant dependent reason booms-up booms-down booms-closed normal secured entry-in entry-zero track-in phase-in crossing-in crossing-zero place-in in-range place-limit value-limit refusal number calling-after waiting-after unsure-after cancels act phase-ticked timer-ticked tick written-at phase-settled timer-settled out-settled settle touch apply written step after carried road signal distant rhythm lit bell boom-lamps right-down left-down released releases-shown status holds row panel book-entry book-site read-number read played
+unfolding fresh-plant dependent reason booms-up booms-down booms-closed normal secured entry-in entry-zero track-in phase-in crossing-in crossing-zero place-in in-range is-known entitled place-limit value-limit refusal number calling-after waiting-after unsure-after cancels act phase-ticked timer-ticked tick written-at phase-settled timer-settled out-settled settle touch apply written step after carried road signal distant rhythm lit bell boom-lamps right-down left-down released releases-shown status holds row panel book-entry book-site read-number read played
 computed = record { ticks = refl; carries = refl; phase = refl }
 
 ticks-270 : played lights 0 (release 270) ≡ ended

@@ -1,8 +1,8 @@
--- Demand 3, proved: the parts at one crossing, then the claim for every book and every list.
+-- Demand 3, proved: the parts at one crossing, then the claim for every book and every list of commands.
 use mathlib.Core.Path.{_≡_, refl, sym, _∙_, ap}
 use mathlib.Core.Logic.{⊎-elim}
 use mathlib.Core.Bool.{Bool, true, false, _||_, true≢false, or-true}
-use mathlib.Core.List.{List}
+use mathlib.Core.List.{List, map}
 use Prim.Native.Nat.{ℕ, _%_, _≤_, _<_}
 use native.Mathlib.Omega.{arith}
 use lib.Dec.{eqb, ltb, leb, lit<}
@@ -12,7 +12,7 @@ use Rattle.machine.specs.declared.Entry.{Entry}
 use Rattle.machine.specs.declared.Site.{Site}
 use Rattle.machine.specs.declared.Crossing.{Crossing}
 use Rattle.machine.specs.declared.Plant.{Plant}
-use Rattle.machine.specs.declared.Event.{Event}
+use Rattle.machine.specs.Events.{From, Command, listed}
 use Rattle.machine.specs.Plant.{boom, lamp, entry, crossing, no-entry, no-crossing, fresh-crossing, fresh-plant, boom-count, each-boom, booms-up, booms-closed, secured}
 use Rattle.machine.specs.Effects.{tick}
 use Rattle.machine.specs.Settling.{settle}
@@ -25,7 +25,7 @@ use Rattle.machine.proofs.Ranges.{PlantIn, plant-reads}
 use Rattle.machine.proofs.Laws.{fresh-in-range, panel-at}
 use Rattle.demand.specs.Words.{up, all-up, as-demanded, all-closed}
 use Rattle.demand.specs.Ledger.{stands, some-unsure}
-use Rattle.demand.specs.Demand.{known, stands-after, Unbroken, needed, shown, a-tick, Closed, Kept, Demand}
+use Rattle.demand.specs.Demand.{known, stands-after, Unbroken, needed, shown, may-tick, a-tick, Closed, Kept, Demand, Unsent-demand}
 use Rattle.demand.proofs.Unbroken.{stands-now, at-least}
 use Rattle.demand.proofs.Timing.{rests, all-down}
 use Rattle.demand.proofs.Agree.{reason-stands}
@@ -39,7 +39,7 @@ use Rattle.demand.proofs.Shown.{passable-secured, released-secured, rig
 shows : (p q : Plant) → q .site ≡ p .site → (i j : ℕ) → i < p .site .n → j < 16 → shown q i j ≡ getD (row (q .beat) (entry p i) (crossing q i)) j 0
 shows p q s i j l b = panel-at q i j (rw s l) b ∙ ap (λ x. getD (row (q .beat) (getD (x .entries) i no-entry) (crossing q i)) j 0) s
 
-module _ (p : Plant) (es : List Event) (k : Sound p es) (i : ℕ) (l : i < p .site .n) where
+module _ (p : Plant) (es : List Command) (k : Sound p es) (i : ℕ) (l : i < p .site .n) where
   abbrev q : Plant
   q = after p es
 
@@ -77,13 +77,13 @@ module _ (p : Plant) (es : List Event) (k : Sound p es) (i : ℕ) (l : i < p .si
     at-rest : rests (c .phase) ≡ true
     at-rest = by-test (rests (c .phase)) (λ r. r) (λ r. absurd (true≢false (sym (stands-now p i (at .timed r .1)) ∙ none)))
 
-    after-tick : all-up (s .kind) (known p i es .boom) ≡ true → shown (step q a-tick .plant) i 9 % 2 ≡ 1
+    after-tick : all-up (s .kind) (known p i es .boom) ≡ true → (from : From) → may-tick from ≡ true → shown (step q (a-tick from) .plant) i 9 % 2 ≡ 1
     unfolding booms-up all-up touch row
-    after-tick raised =
-        let t = tick-taken q (k .range) in
+    after-tick raised from may =
+        let t = tick-taken q from may (k .range) in
         let same : entry q i ≡ s = ap (λ x. getD (x .entries) i no-entry) (k .site) in
-        let byte = shows p (step q a-tick .plant) (step-site q a-tick ∙ k .site) i 9 l (lit< tt) in
-        let now = crossing-after q a-tick t i (omega (arith, range .count, ap (λ x. x .n) (k .site))) in
+        let byte = shows p (step q (a-tick from) .plant) (step-site q (a-tick from) ∙ k .site) i 9 l (lit< tt) in
+        let now = crossing-after q (a-tick from) t i (omega (arith, range .count, ap (λ x. x .n) (k .site))) in
         rw (byte, now, same) (normal-bit s (settle s 1 (tick s c)) (opened s c at-rest (no-timer-in rests refl refl at-rest) (reason-stands (at .agree) ∙ none) (booms-same (λ x. eqb x up) ∙ raised)))
 
   -- an unsure track is a reason
@@ -117,4 +117,9 @@ demand book es v =
     let p = read book .plant in
     let g = fresh-in-range book v in
     let k = sound p g (λ i l. fresh-at (p .site) i l (plant-reads p g .count)) es in
-    record { each = kept p es k; sum = same-sum (p .site .n) _ ∙ k .sum; tick = tick-taken (after p es) (k .range) }
+    record { each = kept p es k; sum = same-sum (p .site .n) _ ∙ k .sum; tick = λ from may. tick-taken (after p es) from may (k .range) }
+
+-- lists without senders
+pub unsent-demand : Unsent-demand
+unfolding Demand Unsent-demand
+unsent-demand book es = demand book (map listed es)

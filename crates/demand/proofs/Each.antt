@@ -1,4 +1,4 @@
--- The invariant of one crossing, and one more event.
+-- The invariant of one crossing, and one more command.
 use mathlib.Core.Path.{_≡_, refl, sym, _∙_}
 use mathlib.Core.Bool.{Bool, true, false, false≢true, and-true, and-false}
 use mathlib.Core.List.{List, [], _∷_, _++_}
@@ -12,7 +12,7 @@ use Rattle.machine.specs.declared.Crossing.{Crossing}
 use Rattle.machine.specs.declared.Plant.{Plant}
 use Rattle.machine.specs.declared.Event.{Event}
 use Rattle.machine.specs.Plant.{boom, entry, reason, booms-up, fresh-crossing}
-use Rattle.machine.specs.Events.{is, on-track, place-limit}
+use Rattle.machine.specs.Events.{Command, is, on-track, place-limit}
 use Rattle.machine.specs.Effects.{act, tick, written-at}
 use Rattle.machine.specs.Settling.{settle}
 use Rattle.machine.specs.Step.{after, touch}
@@ -28,7 +28,7 @@ use Rattle.demand.proofs.Agree.{Agree, own-agree, tick-agree, reason-st
 use Rattle.demand.proofs.Account.{Even, own-even, own-written, tick-even, tick-written}
 
 -- what holds of crossing i, whose record is c after the list es from the plant p
-pub record Holds (p : Plant) (es : List Event) (i : ℕ) (c : Crossing) : Type 0 where
+pub record Holds (p : Plant) (es : List Command) (i : ℕ) (c : Crossing) : Type 0 where
   pub agree : Agree c (known p i es)
   pub timed : Timed (λ n. Unbroken p i n es) (entry p i) (c .phase) (c .timer)
   pub closing : stands-after p i es ≡ true → eqb (c .phase) 0 ≡ false
@@ -60,15 +60,18 @@ no-timer test a b (right p f l h) q = absurd (false≢true (sym b ∙ (rw p at q
 no-timer test a b (closed p z) q = z
 no-timer test a b (raising p z h) q = z
 
-module _ (p : Plant) (es : List Event) (e : Event) (i : ℕ) (c : Crossing) (k : Holds p es i c) where
+module _ (p : Plant) (es : List Command) (x : Command) (i : ℕ) (c : Crossing) (k : Holds p es i c) where
+  abbrev e : Event
+  e = x .event
+
   abbrev s : Entry
   s = entry p i
 
   abbrev h : List Event
   h = log p i es
 
-  abbrev more : List Event
-  more = es ++ e ∷ []
+  abbrev more : List Command
+  more = es ++ x ∷ []
 
   -- an event of this crossing whose place is a track is at one of four
   at-track : {n : ℕ} → s .tracks ≤ 4 → Accepted n s c e → (j : ℕ) → on-track j ≡ true → is j e ≡ true → e .place < 4
@@ -76,22 +79,22 @@ module _ (p : Plant) (es : List Event) (e : Event) (i : ℕ) (c : Crossing) (k :
   at-track few a j on q = let b : e .place < s .tracks = rw (eqb-true (e .code) j q, on) at (a .place) in omega arith
 
   -- a refused event, or one of another crossing
-  module _ (none : note (after p es) i e ≡ []) where
+  module _ (none : note (after p es) i x ≡ []) where
     same-log : log p i more ≡ h
-    same-log = log-snoc p i es e ∙ rw none
+    same-log = log-snoc p i es x ∙ rw none
 
     pub skipped : Holds p more i c
     skipped = record {
       agree = rw same-log (k .agree);
-      timed = λ q. let u = k .timed q in (u .0, goes-on p i (u .0) es e (u .1) (rw same-log (stands-now p i (u .1))) (omega arith), u .2);
+      timed = λ q. let u = k .timed q in (u .0, goes-on p i (u .0) es x (u .1) (rw same-log (stands-now p i (u .1))) (omega arith), u .2);
       closing = λ st. k .closing (rw same-log at st);
       even = rw same-log (k .even);
     }
 
   -- an event of this crossing, or a tick: d is the record before it settles
-  module _ (noted : note (after p es) i e ≡ e ∷ []) where
+  module _ (noted : note (after p es) i x ≡ e ∷ []) where
     longer-log : log p i more ≡ e ∷ h
-    longer-log = log-snoc p i es e ∙ rw noted
+    longer-log = log-snoc p i es x ∙ rw noted
 
     settled : (add : ℕ) (d : Crossing) → Agree (settle s add d) (next s e (known p i es)) → Even (settle s add d) (next s e (known p i es)) (e ∷ h)
         → (stands-after p i more ≡ true → Timed (λ n. Unbroken p i n more) s (d .phase) (d .timer)) → Holds p more i (settle s add d)
@@ -107,18 +110,18 @@ module _ (p : Plant) (es : List Event) (e : Event) (i : ℕ) (c : Crossing) (k :
     pub ticked : e .code ≡ 0 → PhaseIn s (c .phase) (c .timer) → Holds p more i (settle s 1 (tick s c))
     unfolding tick count
     ticked z t = settled 1 (tick s c) (tick-agree s (k .agree) e z) (tick-even s (k .agree) e z h (k .even))
-        (λ st. timed-tick s (c .phase) (c .timer) (λ n u. goes-on p i (suc n) es e u st one-more) (no-timer rests refl refl t) (k .timed))
+        (λ st. timed-tick s (c .phase) (c .timer) (λ n u. goes-on p i (suc n) es x u st one-more) (no-timer rests refl refl t) (k .timed))
       where
-        one-more : {n : ℕ} → suc n ≤ n + count 0 (note (after p es) i e)
+        one-more : {n : ℕ} → suc n ≤ n + count 0 (note (after p es) i x)
         one-more = rw noted (rw z (omega arith))
 
     pub acted : {n : ℕ} → is 0 e ≡ false → s .tracks ≤ 4 → Accepted n s c e → Holds p more i (settle s 0 (act s c e))
     unfolding act
     acted nt few a = settled 0 (act s c e) (own-agree s (k .agree) e nt (at-track few a 1 refl)) (own-even s (k .agree) e nt (at-track few a) (a .there) h (k .even))
-        (λ st q. let u = k .timed q in (u .0, goes-on p i (u .0) es e (u .1) st (omega arith), u .2))
+        (λ st q. let u = k .timed q in (u .0, goes-on p i (u .0) es x (u .1) st (omega arith), u .2))
 
   -- a taken event, of any crossing
-  module _ (t : taken (after p es) e ≡ true) where
+  module _ (t : taken (after p es) x ≡ true) where
     pub touched : {n : ℕ} → PhaseIn s (c .phase) (c .timer) → s .tracks ≤ 4 → (eqb (e .crossing) i ≡ true → Accepted n s c e) → Holds p more i (touch s i c e)
     unfolding touch note
     touched ph few a = by-cond (Holds p more i) (is 0 e)

@@ -1,4 +1,4 @@
--- What holds after every list of events, by induction over the list.
+-- What holds after every list of commands, by induction over the list.
 use mathlib.Core.Path.{_≡_, refl, _∙_, ap}
 use mathlib.Core.Bool.{true, false}
 use mathlib.Core.List.{List, [], _∷_, _++_}
@@ -11,6 +11,7 @@ use Rattle.machine.specs.Common.{sum-below}
 use Rattle.machine.specs.declared.Plant.{Plant}
 use Rattle.machine.specs.declared.Event.{Event}
 use Rattle.machine.specs.Plant.{entry, crossing, no-entry, fresh-crossing}
+use Rattle.machine.specs.Events.{Command}
 use Rattle.machine.specs.Range.{in-range}
 use Rattle.machine.specs.Effects.{written-at}
 use Rattle.machine.specs.Step.{step, after, carried}
@@ -31,7 +32,7 @@ unfolding sum-over
 same-sum zero f = refl
 same-sum (suc n) f = rw (same-sum n f)
 
-pub record Sound (p : Plant) (es : List Event) : Type 0 where
+pub record Sound (p : Plant) (es : List Command) : Type 0 where
   pub site : after p es .site ≡ p .site
   pub range : in-range (after p es) ≡ true
   pub each : (i : ℕ) → i < p .site .n → Holds p es i (crossing (after p es) i)
@@ -42,54 +43,57 @@ module _ (p : Plant) where
   unfolding after carried log state
   none g fresh = record { site = refl; range = g; each = λ i l. rw (fresh i l) (fresh-holds p i); sum = sum-past (λ i. known p i [] .written) (p .site .n) 0 (omega arith) (λ i a b. refl) }
 
-  module _ (es : List Event) (e : Event) (k : Sound p es) where
+  module _ (es : List Command) (x : Command) (k : Sound p es) where
+    abbrev e : Event
+    e = x .event
+
     abbrev q : Plant
     q = after p es
 
-    now : after p (es ++ e ∷ []) ≡ step q e .plant
+    now : after p (es ++ x ∷ []) ≡ step q x .plant
     unfolding after
-    now = after-append p es (e ∷ [])
+    now = after-append p es (x ∷ [])
 
-    carries : carried p (es ++ e ∷ []) ≡ carried p es + step q e .written
+    carries : carried p (es ++ x ∷ []) ≡ carried p es + step q x .written
     unfolding carried
-    carries = carried-append p es (e ∷ []) ∙ (rw add-zero)
+    carries = carried-append p es (x ∷ []) ∙ (rw add-zero)
 
     same-entry : (i : ℕ) → entry q i ≡ entry p i
-    same-entry i = ap (λ x. getD (x .entries) i no-entry) (k .site)
+    same-entry i = ap (λ y. getD (y .entries) i no-entry) (k .site)
 
-    still-in : in-range (after p (es ++ e ∷ [])) ≡ true
-    still-in = rw now (stays-in-range q e (k .range))
+    still-in : in-range (after p (es ++ x ∷ [])) ≡ true
+    still-in = rw now (stays-in-range q x (k .range))
 
-    refused-more : taken q e ≡ false → Sound p (es ++ e ∷ [])
+    refused-more : taken q x ≡ false → Sound p (es ++ x ∷ [])
     unfolding note
     refused-more f =
-        let same : step q e .plant ≡ q = ap (λ a. a .plant) (refused-step q e f) in
-        let l : (i : ℕ) → log p i (es ++ e ∷ []) ≡ log p i es = (λ i. log-snoc p i es e ∙ (rw f)) in
+        let same : step q x .plant ≡ q = ap (λ a. a .plant) (refused-step q x f) in
+        let l : (i : ℕ) → log p i (es ++ x ∷ []) ≡ log p i es = (λ i. log-snoc p i es x ∙ (rw f)) in
         record {
           site = rw (now, same) (k .site);
           range = still-in;
-          each = λ i b. rw (now, same) (skipped p es e i (crossing q i) (k .each i b) (rw f));
-          sum = sum-same (p .site .n) _ _ (λ i b. rw (l i)) ∙ k .sum ∙ rw (carries, refused-step q e f, add-zero);
+          each = λ i b. rw (now, same) (skipped p es x i (crossing q i) (k .each i b) (rw f));
+          sum = sum-same (p .site .n) _ _ (λ i b. rw (l i)) ∙ k .sum ∙ rw (carries, refused-step q x f, add-zero);
         }
 
-    taken-more : taken q e ≡ true → Sound p (es ++ e ∷ [])
+    taken-more : taken q x ≡ true → Sound p (es ++ x ∷ [])
     taken-more t =
         let g = plant-reads q (k .range) in
-        let n : q .site .n ≡ p .site .n = ap (λ x. x .n) (k .site) in
+        let n : q .site .n ≡ p .site .n = ap (λ y. y .n) (k .site) in
         let few : (i : ℕ) → i < q .site .n → entry p i .tracks ≤ 4 = (λ i l. rw (same-entry i) at (entry-of g i l .tracks)) in
-        let own : (i : ℕ) → eqb (e .crossing) i ≡ true → Accepted (q .site .n) (entry p i) (crossing q i) e = (λ i o. rw (same-entry i) at (taken-accepted q e (zero-number q e t) i o)) in
+        let own : (i : ℕ) → eqb (e .crossing) i ≡ true → Accepted (q .site .n) (entry p i) (crossing q i) e = (λ i o. rw (same-entry i) at (taken-accepted q x (zero-number q x t) i o)) in
         record {
-          site = rw now (step-site q e ∙ k .site);
+          site = rw now (step-site q x ∙ k .site);
           range = still-in;
           each = λ i b.
               let l : i < q .site .n = rw n b in
               let same = same-entry i in
-              let c = crossing-after q e t i (omega (arith, g .count)) in
-              rw (now, c, same) (touched p es e i (crossing q i) (k .each i b) t (rw same at (g .used i l .phase)) (few i l) (own i));
-          sum = sum-same (p .site .n) _ (λ i. known p i es .written + written-at (entry p i) i (crossing q i) e) (λ i b. written-touched p es e i (crossing q i) (k .each i b) t (few i (rw n b)) (own i))
+              let c = crossing-after q x t i (omega (arith, g .count)) in
+              rw (now, c, same) (touched p es x i (crossing q i) (k .each i b) t (rw same at (g .used i l .phase)) (few i l) (own i));
+          sum = sum-same (p .site .n) _ (λ i. known p i es .written + written-at (entry p i) i (crossing q i) e) (λ i b. written-touched p es x i (crossing q i) (k .each i b) t (few i (rw n b)) (own i))
               ∙ sum-add (p .site .n) (λ i. known p i es .written) (λ i. written-at (entry p i) i (crossing q i) e)
-              ∙ omega (arith, carries, taken-written q e t g, ap (λ x. sum-below (x .n) (λ i. written-at (getD (x .entries) i no-entry) i (crossing q i) e)) (k .site), k .sum);
+              ∙ omega (arith, carries, taken-written q x t g, ap (λ y. sum-below (y .n) (λ i. written-at (getD (y .entries) i no-entry) i (crossing q i) e)) (k .site), k .sum);
         }
 
-  pub sound : in-range p ≡ true → ((i : ℕ) → i < p .site .n → crossing p i ≡ fresh-crossing true) → (es : List Event) → Sound p es
-  sound g fresh = snoc-induction (Sound p) (none g fresh) (λ es e k. by-test (taken (after p es) e) (taken-more es e k) (refused-more es e k))
+  pub sound : in-range p ≡ true → ((i : ℕ) → i < p .site .n → crossing p i ≡ fresh-crossing true) → (es : List Command) → Sound p es
+  sound g fresh = snoc-induction (Sound p) (none g fresh) (λ es x k. by-test (taken (after p es) x) (taken-more es x k) (refused-more es x k))

@@ -1,9 +1,9 @@
--- Demand 3, one claim about every list of events from the fresh plant of a book: the train account, the passage rule, the opening tick and,
--- with T-01, the unsure track.
+-- Demand 3, one claim about every list of commands from the fresh plant of a book: the train account, the passage rule, the opening tick and,
+-- with T-01, the unsure track. A command (T-04) is an event of any sender, or of a sheet and so of none; a list may mix them.
 use mathlib.Core.Path.{_≡_}
 use mathlib.Core.Logic.{_⊎_}
 use mathlib.Core.Bool.{Bool, true, false}
-use mathlib.Core.List.{List, _++_}
+use mathlib.Core.List.{List, _++_, map}
 use Prim.Native.Nat.{ℕ, _+_, _*_, _%_, _≤_, _<_}
 use lib.Dec.{eqb}
 use lib.ListN.{getD}
@@ -12,6 +12,7 @@ use Rattle.machine.specs.declared.Crossing.{Crossing}
 use Rattle.machine.specs.declared.Plant.{Plant}
 use Rattle.machine.specs.declared.Event.{Event}
 use Rattle.machine.specs.Plant.{entry, crossing}
+use Rattle.machine.specs.Events.{From, sheet, sender, Command, listed}
 use Rattle.machine.specs.Step.{step, after, carried}
 use Rattle.machine.specs.Panel.{panel}
 use Rattle.machine.specs.SiteBook.{read}
@@ -20,20 +21,20 @@ use Rattle.demand.specs.Ledger.{taken, log, ticks, strike-ins, passages,
 
 -- p is the plant before the list es, and i a crossing of it ------------------------------------------------------------------------
 -- what is known of crossing i after the list
-abbrev pub known : Plant → ℕ → List Event → State
+abbrev pub known : Plant → ℕ → List Command → State
 known p i es = state (entry p i) (log p i es)
 
 -- a reason stands there
-abbrev pub stands-after : Plant → ℕ → List Event → Bool
+abbrev pub stands-after : Plant → ℕ → List Command → Bool
 stands-after p i es = stands (known p i es)
 
--- unbroken for at least k ticks: some number of last events hold k taken ticks or more, and a reason stands before the first of them and after each
-pub record Unbroken (p : Plant) (i k : ℕ) (es : List Event) : Type 0 where
-  pub older : List Event
-  pub latest : List Event
+-- unbroken for at least k ticks: some number of last commands hold k taken ticks or more, and a reason stands before the first of them and after each
+pub record Unbroken (p : Plant) (i k : ℕ) (es : List Command) : Type 0 where
+  pub older : List Command
+  pub latest : List Command
   pub split : es ≡ older ++ latest
   pub enough : k ≤ ticks (log (after p older) i latest)
-  pub stood : (a b : List Event) → latest ≡ a ++ b → stands-after p i (older ++ a) ≡ true
+  pub stood : (a b : List Command) → latest ≡ a ++ b → stands-after p i (older ++ a) ≡ true
 
 -- F ticks, F + G with four booms
 abbrev pub needed : Entry → ℕ
@@ -47,43 +48,48 @@ shown p i k = getD (panel p) (16 * i + k) 0
 abbrev pub there : Crossing → ℕ
 there c = sum4 (λ t. getD (c .calling) t 0 + getD (c .waiting) t 0)
 
+-- who may send a tick (T-04): a sheet, and of the senders detection, number 0
+abbrev pub may-tick : From → Bool
+may-tick sheet = true
+may-tick (sender k) = eqb k 0
+
 -- the further tick
-abbrev pub a-tick : Event
-a-tick = record { code = 0; crossing = 0; place = 0; value = 0 }
+abbrev pub a-tick : From → Command
+a-tick from = record { from = from; event = record { code = 0; crossing = 0; place = 0; value = 0 } }
 
 -- The parts ------------------------------------------------------------------------------------------------------------------------
 -- train account: strike-ins taken = passages taken + trains written off + calling and waiting of the plant after the list
-abbrev pub Account : Plant → List Event → ℕ → Type 0
+abbrev pub Account : Plant → List Command → ℕ → Type 0
 Account p es i =
     let h = log p i es in
     strike-ins h ≡ passages h + known p i es .written + there (crossing (after p es) i)
 
 -- what a train may rely on: a reason unbroken for long enough, the last reports of the booms as the kind demands, and the road's red whole
-pub record Closed (p : Plant) (es : List Event) (i : ℕ) : Type 0 where
+pub record Closed (p : Plant) (es : List Command) (i : ℕ) : Type 0 where
   pub unbroken : Unbroken p i (needed (entry p i)) es
   pub booms : all-closed (entry p i .kind) (known p i es .boom) ≡ true
   pub red : known p i es .lamp 1 ≡ 1
 
 -- passage rule: passable (byte 6 is 2) or released (a bit of byte 8 is set) only then
-abbrev pub Passage : Plant → List Event → ℕ → Type 0
+abbrev pub Passage : Plant → List Command → ℕ → Type 0
 Passage p es i = (shown (after p es) i 6 ≡ 2) ⊎ (0 < shown (after p es) i 8) → Closed p es i
 
 -- no boom is ordered down (bytes 4 and 5); with all booms last reported up, one further tick leaves normal position (the normal bit of byte 9)
-pub record Opens (p : Plant) (es : List Event) (i : ℕ) : Type 0 where
+pub record Opens (p : Plant) (es : List Command) (i : ℕ) : Type 0 where
   pub right : shown (after p es) i 4 ≡ 0
   pub left : shown (after p es) i 5 ≡ 0
-  pub normal : all-up (entry p i .kind) (known p i es .boom) ≡ true → shown (step (after p es) a-tick .plant) i 9 % 2 ≡ 1
+  pub normal : all-up (entry p i .kind) (known p i es .boom) ≡ true → (from : From) → may-tick from ≡ true → shown (step (after p es) (a-tick from) .plant) i 9 % 2 ≡ 1
 
 -- opening tick: that holds where no reason stands
-abbrev pub Opening : Plant → List Event → ℕ → Type 0
+abbrev pub Opening : Plant → List Command → ℕ → Type 0
 Opening p es i = stands-after p i es ≡ false → Opens p es i
 
 -- unsure track (T-01): a crossing that has one does not show the normal bit
-abbrev pub Unsure : Plant → List Event → ℕ → Type 0
+abbrev pub Unsure : Plant → List Command → ℕ → Type 0
 Unsure p es i = some-unsure (known p i es) ≡ true → shown (after p es) i 9 % 2 ≡ 0
 
 -- the parts, per crossing
-pub record Kept (p : Plant) (es : List Event) (i : ℕ) : Type 0 where
+pub record Kept (p : Plant) (es : List Command) (i : ℕ) : Type 0 where
   pub account : Account p es i
   pub passage : Passage p es i
   pub opening : Opening p es i
@@ -91,11 +97,15 @@ pub record Kept (p : Plant) (es : List Event) (i : ℕ) : Type 0 where
 
 -- The claim ------------------------------------------------------------------------------------------------------------------------
 -- at each crossing the parts; over all crossings the trains written off add up to what the answers carry; and a further tick is taken
-pub record Demand-3 (p : Plant) (es : List Event) : Type 0 where
+pub record Demand-3 (p : Plant) (es : List Command) : Type 0 where
   pub each : (i : ℕ) → i < p .site .n → Kept p es i
   pub sum : sum-over (p .site .n) (λ i. known p i es .written) ≡ carried p es
-  pub tick : taken (after p es) a-tick ≡ true
+  pub tick : (from : From) → may-tick from ≡ true → taken (after p es) (a-tick from) ≡ true
 
--- for every book read with number 0 and every list of events, each any four numbers
+-- for every book read with number 0 and every list of commands, each of any sender or of a sheet, and of any four numbers
 unfoldable pub Demand : Type 0
-Demand = (book : List ℕ) (es : List Event) → read book .number ≡ 0 → Demand-3 (read book .plant) es
+Demand = (book : List ℕ) (es : List Command) → read book .number ≡ 0 → Demand-3 (read book .plant) es
+
+-- its case without senders: every list of events, as a sheet has them
+unfoldable pub Unsent-demand : Type 0
+Unsent-demand = (book : List ℕ) (es : List Event) → read book .number ≡ 0 → Demand-3 (read book .plant) (map listed es)

@@ -7,26 +7,27 @@ use lib.Dec.{eqb, ltb, leb}
 use Rattle.machine.specs.declared.Entry.{Entry}
 use Rattle.machine.specs.declared.Plant.{Plant}
 use Rattle.machine.specs.declared.Event.{Event}
+use Rattle.machine.specs.Events.{Command}
 use Rattle.machine.specs.Step.{step}
 use Rattle.demand.specs.Words.{bit, sum4, some-track, is, is-to, is-at, depends, up}
 
 -- The taken events ---------------------------------------------------------------------------------------------------------------
--- taken: answered with number 0
-unfoldable pub taken : Plant → Event → Bool
-taken p e = eqb (step p e .number) 0
+-- taken: answered with number 0, whoever sent it (T-04)
+unfoldable pub taken : Plant → Command → Bool
+taken p x = eqb (step p x .number) 0
 
 -- an event of crossing i; a tick is of the whole plant
 abbrev pub is-of : ℕ → Event → Bool
 is-of i e = is 0 e || eqb (e .crossing) i
 
--- what an event adds to the log of crossing i; a refused event counts nowhere
-unfoldable pub note : Plant → ℕ → Event → List Event
-note p i e = cond (taken p e && is-of i e) (e ∷ []) []
+-- what a command adds to the log of crossing i: its event; a refused one counts nowhere
+unfoldable pub note : Plant → ℕ → Command → List Event
+note p i x = cond (taken p x && is-of i (x .event)) (x .event ∷ []) []
 
 -- the log of crossing i: its taken events, the newest first, each answered by the plant that the last one returned
-unfoldable pub log : Plant → ℕ → List Event → List Event
+unfoldable pub log : Plant → ℕ → List Command → List Event
 log p i [] = []
-log p i (e ∷ es) = log (step p e .plant) i es ++ note p i e
+log p i (x ∷ xs) = log (step p x .plant) i xs ++ note p i x
 
 -- the events of a code in a log
 unfoldable pub count : ℕ → List Event → ℕ

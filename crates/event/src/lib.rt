@@ -1,4 +1,4 @@
-// The event call (document 01, "Events"): any plant, spoilt ones too, and any four bytes.
+// The event call (document 01, "Events"; document 02, T-04): any plant, spoilt ones too, any sender and any four bytes.
 use machine::Answer;
 use machine::Event;
 use machine::Plant;
@@ -7,7 +7,8 @@ use verdict::Verdict;
 ghost use mathlib.Core.Path.{_≡_};
 ghost use mathlib.Core.Bool.{true};
 ghost use Rattle.machine.specs.Range.{in-range};
-ghost use Rattle.machine.specs.Events.{number};
+ghost use Rattle.machine.specs.Rights.{known-sender};
+ghost use Rattle.machine.specs.Events.{listed, sent, number};
 ghost use Rattle.machine.specs.Step.{step};
 
 // Refused: the number, the plant as it was given and a zero count.
@@ -21,10 +22,10 @@ fn refused(p: Plant, number: u8) -> Answer
     }
 }
 
-// A tick that is taken. Inside this crate alone.
+// A tick that is taken, whoever sent it. Inside this crate alone.
 fn take_tick(p: Plant, e: Event) -> Answer
-    requires { ⌜ (number p e ≡ 0) × (e .code ≡ 0) ⌝ }
-    ensures { λ r. ⌜ r ≡ step p e ⌝ }
+    requires { ⌜ (number p (listed e) ≡ 0) × (e .code ≡ 0) ⌝ }
+    ensures { λ r. ⌜ r ≡ step p (listed e) ⌝ }
 {
     let site = p.site;
     let crossings = p.crossings;
@@ -41,10 +42,10 @@ fn take_tick(p: Plant, e: Event) -> Answer
     }
 }
 
-// An event of one crossing that is taken: the others stay as they are. Inside this crate alone.
+// An event of one crossing that is taken, whoever sent it: the others stay as they are. Inside this crate alone.
 fn take_own(p: Plant, e: Event) -> Answer
-    requires { ⌜ (number p e ≡ 0) × (e .code ≡ 0 → ⊥) ⌝ }
-    ensures { λ r. ⌜ r ≡ step p e ⌝ }
+    requires { ⌜ (number p (listed e) ≡ 0) × (e .code ≡ 0 → ⊥) ⌝ }
+    ensures { λ r. ⌜ r ≡ step p (listed e) ⌝ }
 {
     let k = e.crossing as usize;
     let site = p.site;
@@ -61,10 +62,10 @@ fn take_own(p: Plant, e: Event) -> Answer
     }
 }
 
-// An event that is taken. Inside this crate alone.
+// An event that is taken, whoever sent it. Inside this crate alone.
 fn take(p: Plant, e: Event) -> Answer
-    requires { ⌜ number p e ≡ 0 ⌝ }
-    ensures { λ r. ⌜ r ≡ step p e ⌝ }
+    requires { ⌜ number p (listed e) ≡ 0 ⌝ }
+    ensures { λ r. ⌜ r ≡ step p (listed e) ⌝ }
 {
     if e.code == 0 {
         return take_tick(p, e);
@@ -72,28 +73,31 @@ fn take(p: Plant, e: Event) -> Answer
     take_own(p, e)
 }
 
-// One event on a plant in range. For other crates alone.
-pub fn answer(p: Plant, e: Event) -> Answer
-    requires { ⌜ in-range p ≡ true ⌝ }
-    ensures { λ r. ⌜ r ≡ step p e ⌝ }
+// One event of a known sender on a plant in range. For other crates alone.
+pub fn answer(p: Plant, sender: u8, e: Event) -> Answer
+    requires { ⌜ (in-range p ≡ true) × (known-sender sender ≡ true) ⌝ }
+    ensures { λ r. ⌜ r ≡ step p (sent sender e) ⌝ }
 {
     let k = (e.crossing % 8) as usize;
     let site = p.site;
     let s = site.entries[k];
     let c = p.crossings[k];
-    let v = verdict::judge(site.n, s, c, e);
+    let v = command::judge(site.n, s, c, sender, e);
     match v {
         Verdict::Take(t) => take(p, t),
         Verdict::Refuse(number) => refused(p, number),
     }
 }
 
-// One event: its number, the trains written off and the plant after it.
-pub fn handle(p: Plant, e: Event) -> Answer
-    ensures { λ r. ⌜ r ≡ step p e ⌝ }
+// One event of a sender: its number, the trains written off and the plant after it.
+pub fn handle(p: Plant, sender: u8, e: Event) -> Answer
+    ensures { λ r. ⌜ r ≡ step p (sent sender e) ⌝ }
 {
     if plant::in_range(p) {
-        return answer(p, e);
+        if rights::known(sender) {
+            return answer(p, sender, e);
+        }
+        return refused(p, numbers::UNKNOWN_SENDER);
     }
     refused(p, numbers::OUT_OF_RANGE)
 }

@@ -12,7 +12,7 @@ use Rattle.machine.specs.declared.Plant.{Plant}
 use Rattle.machine.specs.declared.Event.{Event}
 use Rattle.machine.specs.Plant.{overdue-ticks, boom-count, unsure-flag, trains, entry}
 use Rattle.machine.specs.Range.{in-range}
-use Rattle.machine.specs.Events.{place-limit, value-limit, refusal, number}
+use Rattle.machine.specs.Events.{listed, is-known, entitled, place-limit, value-limit, refusal, number}
 use Rattle.machine.specs.Effects.{unsure-after, written-at}
 use Rattle.machine.specs.Settling.{out-settled}
 use Rattle.machine.proofs.Tools.{by-test}
@@ -22,8 +22,8 @@ abbrev strike-in : ℕ → ℕ → Event
 strike-in i t = record { code = 1; crossing = i; place = t; value = 0 }
 
 -- at a track of the plant it is taken, full or not
-pub strike-in-number : (p : Plant) (i t : ℕ) → in-range p ≡ true → i < p .site .n → t < entry p i .tracks → number p (strike-in i t) ≡ 0
-unfolding number refusal place-limit value-limit
+pub strike-in-number : (p : Plant) (i t : ℕ) → in-range p ≡ true → i < p .site .n → t < entry p i .tracks → number p (listed (strike-in i t)) ≡ 0
+unfolding is-known entitled number refusal place-limit value-limit
 strike-in-number p i t h a b = rw (h, lt-leb _ _ a, lt-leb _ _ b)
 
 module _ (i t : ℕ) (c : Crossing) where
@@ -42,8 +42,8 @@ abbrev boom-report : ℕ → ℕ → ℕ → Event
 boom-report i b v = record { code = 8; crossing = i; place = b; value = v }
 
 -- at a boom of the plant 0 to 3 are taken, and from 4 on it is number 8
-pub boom-report-number : (p : Plant) (i b v : ℕ) → in-range p ≡ true → i < p .site .n → b < boom-count (entry p i .kind) → number p (boom-report i b v) ≡ refuse (leb 4 v) 8 0
-unfolding number refusal place-limit value-limit
+pub boom-report-number : (p : Plant) (i b v : ℕ) → in-range p ≡ true → i < p .site .n → b < boom-count (entry p i .kind) → number p (listed (boom-report i b v)) ≡ refuse (leb 4 v) 8 0
+unfolding is-known entitled number refusal place-limit value-limit
 boom-report-number p i b v h a l = rw (h, lt-leb _ _ a, lt-leb _ _ l)
 
 -- Ticks out of normal ----------------------------------------------------------------------------------------------------------------

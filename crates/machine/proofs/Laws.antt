@@ -10,7 +10,7 @@ use borrow.Author.Tests.{eqb-true, eqb-false, eq-eqb, leb-true, lt-ltb, le-ltb, 
 use Rattle.machine.specs.Common.{tab, all-below}
 use Rattle.machine.specs.Plant.{Entry, Site, Plant, entry, crossing, no-entry, no-crossing, fresh-crossing, fresh-plant, boom-count}
 use Rattle.machine.specs.Range.{entry-in, entry-zero, report-limit, boom-in, crossing-zero, count-in, in-range}
-use Rattle.machine.specs.Events.{Event, is, number}
+use Rattle.machine.specs.Events.{Command, is, number}
 use Rattle.machine.specs.Step.{touch, apply, step}
 use Rattle.machine.specs.Panel.{row, panel}
 use Rattle.machine.specs.SiteBook.{book-size, book-length, book-entry, book-site, read-number, read, setting, first-part, second-part, book}
@@ -112,11 +112,11 @@ fresh-in-range b q =
     (λ i l m. rw (site-entry b i l, le-ltb i (book-size b) m) refl)))
 
 -- An event of one crossing leaves the others -----------------------------------------------------------------------------------------
-pub other-untouched : (p : Plant) (e : Event) (i : ℕ) → i < 8 → is 0 e ≡ false → eqb (e .crossing) i ≡ false → crossing (step p e .plant) i ≡ crossing p i
+pub other-untouched : (p : Plant) (x : Command) (i : ℕ) → i < 8 → is 0 (x .event) ≡ false → eqb (x .event .crossing) i ≡ false → crossing (step p x .plant) i ≡ crossing p i
 unfolding apply touch
-other-untouched p e i l z o = by-test (eqb (number p e) 0)
-    (λ q. rw (taken-answer p e (eqb-true _ _ q)) (getD-tab 8 (λ j. touch (entry p j) j (crossing p j) e) no-crossing i l ∙ rw (z, o)))
-    (λ q. rw (refused-answer p e (eqb-false _ _ q)))
+other-untouched p x i l z o = by-test (eqb (number p x) 0)
+    (λ q. rw (taken-answer p x (eqb-true _ _ q)) (getD-tab 8 (λ j. touch (entry p j) j (crossing p j) (x .event)) no-crossing i l ∙ rw (z, o)))
+    (λ q. rw (refused-answer p x (eqb-false _ _ q)))
 
 -- Lengths: panel 16n, book 1 + 7n ----------------------------------------------------------------------------------------------------
 pub panel-length : (p : Plant) → length (panel p) ≡ 16 * p .site .n

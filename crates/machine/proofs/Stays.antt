@@ -10,7 +10,7 @@ use Rattle.machine.specs.Common.{tab, bit}
 use Rattle.machine.specs.Plant.{Entry, Crossing, Plant, release-ticks, overdue-ticks, full, calling, waiting, route-flag, occupied-flag, unsure-flag, boom, lamp-flag, trains, entry, crossing, no-crossing, dependent, boom-count, reason, booms-up}
 use Rattle.machine.specs.Reports.{lost}
 use Rattle.machine.specs.Range.{in-range, report-limit, boom-in}
-use Rattle.machine.specs.Events.{Event, is, is-at, on-track, place-limit, value-limit, number}
+use Rattle.machine.specs.Events.{Event, Command, is, is-at, on-track, place-limit, value-limit, number}
 use Rattle.machine.specs.Effects.{sweeps, calling-after, waiting-after, unsure-after, cancels, act, releases, phase-ticked, timer-ticked, tick}
 use Rattle.machine.specs.Settling.{phase-settled, timer-settled, out-settled, with-phase, settle}
 use Rattle.machine.specs.Step.{touch, apply, step}
@@ -207,42 +207,43 @@ module _ (s : Entry) (none : s .kind ≡ 0) where
   zero-touched c h = let k = zero-ticks c h in rw (zero-settles (tick s c) k) k
 
 -- The plant ------------------------------------------------------------------------------------------------------------------------
-touches-used : (p : Plant) (e : Event) (h : PlantIn p) → number p e ≡ 0 → (i : ℕ) → i < p .site .n → CrossingIn (entry p i) (touch (entry p i) i (crossing p i) e)
+touches-used : (p : Plant) (x : Command) (h : PlantIn p) → number p x ≡ 0 → (i : ℕ) → i < p .site .n → CrossingIn (entry p i) (touch (entry p i) i (crossing p i) (x .event))
 unfolding touch
-touches-used p e h q i l =
+touches-used p x h q i l =
+    let e = x .event in
     let s = entry p i in
     let c = crossing p i in
     let g = entry-of h i l in
     by-cond (CrossingIn s) (is 0 e)
     (λ _. settles s g 1 (tick s c) (omega arith) (ticks s g c (h .used i l)))
     (λ _. by-cond (CrossingIn s) (eqb (e .crossing) i)
-    (λ o. settles s g 0 (act s c e) (omega arith) (acts s g (p .site .n) c e (taken-accepted p e q i o) (h .used i l)))
+    (λ o. settles s g 0 (act s c e) (omega arith) (acts s g (p .site .n) c e (taken-accepted p x q i o) (h .used i l)))
     (λ _. h .used i l))
 
-touches-past : (p : Plant) (e : Event) (h : PlantIn p) → number p e ≡ 0 → (i : ℕ) → i < 8 → p .site .n ≤ i → NoCrossing (touch (entry p i) i (crossing p i) e)
+touches-past : (p : Plant) (x : Command) (h : PlantIn p) → number p x ≡ 0 → (i : ℕ) → i < 8 → p .site .n ≤ i → NoCrossing (touch (entry p i) i (crossing p i) (x .event))
 unfolding touch
-touches-past p e h q i l m = by-cond NoCrossing (is 0 e)
+touches-past p x h q i l m = by-cond NoCrossing (is 0 (x .event))
     (λ _. zero-touched (entry p i) (zero-kind (entry p i) (h .entry-past i l m)) (crossing p i) (h .past i l m))
-    (λ z. by-cond NoCrossing (eqb (e .crossing) i)
-    (λ o. let at : e .crossing ≡ i = eqb-true _ _ o in let b = taken-crossing p e q z in absurd (omega arith))
+    (λ z. by-cond NoCrossing (eqb (x .event .crossing) i)
+    (λ o. let at : x .event .crossing ≡ i = eqb-true _ _ o in let b = taken-crossing p x q z in absurd (omega arith))
     (λ _. h .past i l m))
 
-pub applied-in-range : (p : Plant) (e : Event) → number p e ≡ 0 → PlantIn p → PlantIn (apply p e)
+pub applied-in-range : (p : Plant) (x : Command) → number p x ≡ 0 → PlantIn p → PlantIn (apply p (x .event))
 unfolding apply
-applied-in-range p e q h = record {
+applied-in-range p x q h = record {
   some = h .some;
   count = h .count;
-  beat = by-cond (λ x. x ≤ 3) (is 0 e) (λ _. omega arith) (λ _. h .beat);
+  beat = by-cond (λ x. x ≤ 3) (is 0 (x .event)) (λ _. omega arith) (λ _. h .beat);
   entry-test = h .entry-test;
-  used = λ i l. rw (at i (let n = h .count in omega arith)) (touches-used p e h q i l);
+  used = λ i l. rw (at i (let n = h .count in omega arith)) (touches-used p x h q i l);
   entry-past = h .entry-past;
-  past = λ i l m. rw (at i l) (touches-past p e h q i l m);
+  past = λ i l m. rw (at i l) (touches-past p x h q i l m);
 }
   where
-    at : (i : ℕ) → i < 8 → getD (tab 8 (λ j. touch (entry p j) j (crossing p j) e)) i no-crossing ≡ touch (entry p i) i (crossing p i) e
-    at i l = getD-tab 8 (λ j. touch (entry p j) j (crossing p j) e) no-crossing i l
+    at : (i : ℕ) → i < 8 → getD (tab 8 (λ j. touch (entry p j) j (crossing p j) (x .event))) i no-crossing ≡ touch (entry p i) i (crossing p i) (x .event)
+    at i l = getD-tab 8 (λ j. touch (entry p j) j (crossing p j) (x .event)) no-crossing i l
 
-pub stays-in-range : (p : Plant) (e : Event) → in-range p ≡ true → in-range (step p e .plant) ≡ true
-stays-in-range p e h = by-test (eqb (number p e) 0)
-    (λ t. let q = eqb-true _ _ t in rw (taken-answer p e q) (plant-tests (apply p e) (applied-in-range p e q (plant-reads p h))))
-    (λ t. rw (refused-answer p e (eqb-false _ _ t)) h)
+pub stays-in-range : (p : Plant) (x : Command) → in-range p ≡ true → in-range (step p x .plant) ≡ true
+stays-in-range p x h = by-test (eqb (number p x) 0)
+    (λ t. let q = eqb-true _ _ t in rw (taken-answer p x q) (plant-tests (apply p (x .event)) (applied-in-range p x q (plant-reads p h))))
+    (λ t. rw (refused-answer p x (eqb-false _ _ t)) h)

@@ -4,10 +4,11 @@ use mathlib.Core.List.{List, [], _∷_}
 use Prim.Native.Nat.{ℕ, _+_, _*_}
 use lib.Dec.{eqb, ltb}
 use lib.ListN.{length}
-use Rattle.machine.specs.Common.{concat-below, sum4, bit, refuse, low, high}
-use Rattle.machine.specs.Numbers.{bad-output-length, out-of-range}
+use Rattle.machine.specs.Common.{tab, concat-below, sum4, bit, refuse, byte, low, high}
+use Rattle.machine.specs.Numbers.{bad-output-length, out-of-range, unknown-sender}
 use Rattle.machine.specs.Plant.{Entry, Crossing, Plant, overdue-ticks, calling, waiting, route, boom, lamp, kiosk, operator, entry, crossing, dependent, lights-only, booms-down, normal, secured}
 use Rattle.machine.specs.Range.{in-range}
+use Rattle.machine.specs.Rights.{known-sender, sees}
 
 -- there are booms: kinds 2 to 4
 abbrev pub has-booms : Entry → Bool
@@ -103,10 +104,23 @@ row beat s c =
 unfoldable pub panel : Plant → List ℕ
 panel p = concat-below (p .site .n) (λ i. row (p .beat) (entry p i) (crossing p i))
 
--- A panel drawn: 15, 14. `lent` is what the output held
-unfoldable pub draw-number : Plant → List ℕ → ℕ
-draw-number p lent = refuse (not (in-range p)) out-of-range (refuse (not (eqb (length lent) (16 * p .site .n))) bad-output-length 0)
+-- Views (T-04) -------------------------------------------------------------------------------------------------------------------
+-- the bytes of a crossing as sender k sees them, the others 0
+abbrev pub seen : ℕ → List ℕ → List ℕ
+seen k bytes = tab 16 (λ j. bit (sees k j) (byte bytes j))
 
--- the bytes of the output after the call: the panel or, refused, what it held
-unfoldable pub drawn : Plant → List ℕ → List ℕ
-drawn p lent = cond (eqb (draw-number p lent) 0) (panel p) lent
+-- the panel as sender k sees it
+unfoldable pub view : ℕ → Plant → List ℕ
+view k p = concat-below (p .site .n) (λ i. seen k (row (p .beat) (entry p i) (crossing p i)))
+
+-- A panel drawn for sender k: 15, 16, 14. `lent` is what the output held
+unfoldable pub draw-number : Plant → ℕ → List ℕ → ℕ
+draw-number p k lent =
+    refuse (not (in-range p)) out-of-range
+    (refuse (not (known-sender k)) unknown-sender
+    (refuse (not (eqb (length lent) (16 * p .site .n))) bad-output-length
+    0))
+
+-- the bytes of the output after the call: what the sender sees or, refused, what it held
+unfoldable pub drawn : Plant → ℕ → List ℕ → List ℕ
+drawn p k lent = cond (eqb (draw-number p k lent) 0) (view k p) lent

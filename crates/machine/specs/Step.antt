@@ -6,7 +6,7 @@ use lib.Dec.{eqb}
 pub use Rattle.machine.specs.declared.Answer.{Answer}
 use Rattle.machine.specs.Common.{tab, sum-below}
 use Rattle.machine.specs.Plant.{Entry, Crossing, Plant, entry, crossing}
-use Rattle.machine.specs.Events.{Event, is, number}
+use Rattle.machine.specs.Events.{Event, Command, is, number}
 use Rattle.machine.specs.Effects.{act, tick, written-at}
 use Rattle.machine.specs.Settling.{settle}
 
@@ -30,18 +30,18 @@ unfoldable pub written : Plant → Event → ℕ
 written p e = sum-below 8 (λ i. written-at (entry p i) i (crossing p i) e)
 
 -- taken: number 0. Refused: the number, the plant it was given and a zero count
-unfoldable pub step : Plant → Event → Answer
-step p e =
-    cond (eqb (number p e) 0)
-    (record { number = 0; written = written p e; plant = apply p e })
-    (record { number = number p e; written = 0; plant = p })
+unfoldable pub step : Plant → Command → Answer
+step p x =
+    cond (eqb (number p x) 0)
+    (record { number = 0; written = written p (x .event); plant = apply p (x .event) })
+    (record { number = number p x; written = 0; plant = p })
 
--- A list of events: each gets the plant that the last one returned, taken or refused
-unfoldable pub after : Plant → List Event → Plant
+-- A list of commands: each gets the plant that the last one returned, taken or refused
+unfoldable pub after : Plant → List Command → Plant
 after p [] = p
-after p (e ∷ es) = after (step p e .plant) es
+after p (x ∷ xs) = after (step p x .plant) xs
 
 -- the trains written off that the answers carry
-unfoldable pub carried : Plant → List Event → ℕ
+unfoldable pub carried : Plant → List Command → ℕ
 carried p [] = 0
-carried p (e ∷ es) = step p e .written + carried (step p e .plant) es
+carried p (x ∷ xs) = step p x .written + carried (step p x .plant) xs

@@ -2,6 +2,7 @@
 // What each event does and what each panel byte shows is defined in specs/.
 pub mod numbers;
 pub mod reports;
+pub mod senders;
 
 ghost use mathlib.Core.Path.{_≡_};
 ghost use Rattle.machine.specs.Plant.{fresh-crossing, fresh-plant};

@@ -6,19 +6,23 @@ use lib.ListN.{length}
 use borrow.Author.Tests.{ne-eqb}
 use Rattle.machine.specs.declared.Plant.{Plant}
 use Rattle.machine.specs.declared.Event.{Event}
+use Rattle.machine.specs.Events.{Command, sent}
 use Rattle.machine.specs.Step.{step}
-use Rattle.machine.specs.Panel.{panel}
+use Rattle.machine.specs.Panel.{view}
 use Rattle.machine.proofs.Taken.{refused-answer, answer-number}
 use Rattle.machine.proofs.Foretold.{Previews, then-drawn, foretold}
 
-module _ (p : Plant) (e : Event) (lent : List ℕ) (f : length lent ≡ 16 * p .site .n) where
-  pub returns-taken : step p e .number ≡ 0 → Previews p e lent (step p e .number) (step p e .written) (panel (step p e .plant))
+module _ (p : Plant) (k : ℕ) (e : Event) (lent : List ℕ) (f : length lent ≡ 16 * p .site .n) where
+  abbrev x : Command
+  x = sent k e
+
+  pub returns-taken : step p x .number ≡ 0 → Previews p k e lent (step p x .number) (step p x .written) (view k (step p x .plant))
   returns-taken q =
-      let h = rw q at (foretold p e lent f) in
-      let d = then-drawn p e lent f (sym (answer-number p e) ∙ q) in
+      let h = rw q at (foretold p k e lent f) in
+      let d = then-drawn p k e lent f (sym (answer-number p x) ∙ q) in
       rw q (h .0, (h .1 .0, sym (d .1) ∙ h .1 .1))
 
-  pub returns-refused : (step p e .number ≡ 0 → ⊥) → Previews p e lent (step p e .number) 0 lent
+  pub returns-refused : (step p x .number ≡ 0 → ⊥) → Previews p k e lent (step p x .number) 0 lent
   returns-refused q =
-      let none = ap (λ a. a .written) (refused-answer p e (λ z. q (answer-number p e ∙ z))) in
-      rw (none, ne-eqb _ _ q) at (foretold p e lent f)
+      let none = ap (λ a. a .written) (refused-answer p x (λ z. q (answer-number p x ∙ z))) in
+      rw (none, ne-eqb _ _ q) at (foretold p k e lent f)

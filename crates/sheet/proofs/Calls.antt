@@ -10,7 +10,7 @@ use Rattle.machine.specs.declared.Plant.{Plant}
 use Rattle.machine.specs.declared.Event.{Event}
 use Rattle.machine.specs.Common.{refuse}
 use Rattle.machine.specs.Range.{in-range}
-use Rattle.machine.specs.Events.{number}
+use Rattle.machine.specs.Events.{listed}
 use Rattle.machine.specs.Panel.{panel}
 use Rattle.machine.specs.Sheet.{sheet-size, sheet-event, sheet-number, run-number, counted, ran, run, run-panel}
 use Rattle.machine.proofs.Taken.{step-site}
@@ -49,4 +49,4 @@ module _ (p : Plant) (s lent : List ℕ) where
 pub ran-site : (p : Plant) (f : ℕ → Event) (k : ℕ) → ran p f k .plant .site ≡ p .site
 unfolding ran counted
 ran-site p f zero = refl
-ran-site p f (suc k) = step-site (ran p f k .plant) (f k) ∙ ran-site p f k
+ran-site p f (suc k) = step-site (ran p f k .plant) (listed (f k)) ∙ ran-site p f k

@@ -48,7 +48,7 @@ fn ended(
     }
 }
 
-// Each event of a whole sheet in turn, from a plant in range. Inside this crate alone.
+// Each event of a whole sheet in turn, from a plant in range, with every right (document 02, T-04). Inside this crate alone.
 fn play(p: Plant, sheet: &[u8], m: usize) -> Run
     requires { ⌜ (in-range p ≡ true) × Whole (now sheet) m ⌝ }
     ensures { λ r. ⌜ r ≡ ran p (sheet-event (now (sheet .entry))) m ⌝ }

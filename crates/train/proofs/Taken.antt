@@ -10,11 +10,11 @@ use Rattle.machine.specs.declared.Entry.{Entry}
 use Rattle.machine.specs.declared.Crossing.{Crossing}
 use Rattle.machine.specs.declared.Event.{Event}
 use Rattle.machine.specs.Plant.{full, trains}
-use Rattle.machine.specs.Events.{is, on-track, place-limit, refusal}
+use Rattle.machine.specs.Events.{is, on-track, place-limit}
 use Rattle.machine.proofs.Tools.{by-test, by-cond}
 use Rattle.machine.proofs.Entries.{EntryIn, at-most-four}
 use Rattle.machine.proofs.Ranges.{CrossingIn}
-use Rattle.machine.proofs.Taken.{accepted}
+use Rattle.machine.proofs.Taken.{Accepted}
 use Rattle.train.specs.Room.{Room}
 
 -- the place of an event of code k, no lamp report
@@ -30,10 +30,9 @@ limit-fits s code four = by-test (eqb code 9)
     (by-cond (λ x. x ≤ 4) (on-track code) (λ _. four) (λ _.
     by-cond (λ x. x ≤ 4) (eqb code 8) (λ _. at-most-four (s .kind)) (λ _. lit≤ tt))))
 
-pub taken-room : (n : ℕ) (s : Entry) (c : Crossing) (e : Event) → EntryIn s → CrossingIn s c → refusal n s c e ≡ 0 → Room c e
+pub taken-room : (n : ℕ) (s : Entry) (c : Crossing) (e : Event) → EntryIn s → CrossingIn s c → Accepted n s c e → Room c e
 unfolding place-limit
-taken-room n s c e g h q =
-    let a = accepted n s c e q in
+taken-room n s c e g h a =
     let four = g .tracks in
     let l = limit-fits s (e .code) four in
     let p = a .place in

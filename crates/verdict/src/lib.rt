@@ -4,7 +4,7 @@ use machine::Entry;
 use machine::Event;
 use machine::numbers;
 use machine::reports;
-ghost use mathlib.Core.Bool.{_&&_};
+ghost use mathlib.Core.Bool.{true, _&&_};
 ghost use mathlib.Core.Path.{_≡_};
 ghost use Prim.Native.Nat.{_≤_};
 ghost use lib.Dec.{eqb};
@@ -107,10 +107,10 @@ fn judge_state(s: Entry, c: Crossing, e: Event) -> Verdict
 }
 
 // The verdict on an event of a plant of n crossings; s and c are those of the event's own crossing. Any four bytes, any
-// settings and any crossing, spoilt ones too.
+// settings and any crossing, spoilt ones too. It has every right, as in a sheet.
 pub fn judge(n: u8, s: Entry, c: Crossing, e: Event) -> Verdict
-    ensures { λ r. ⌜ r ≡ verdict (refusal n s c e) e ⌝ }
-    ensures { λ r. ⌜ number-of r ≡ refusal n s c e ⌝ }
+    ensures { λ r. ⌜ r ≡ verdict (refusal n s c true e) e ⌝ }
+    ensures { λ r. ⌜ number-of r ≡ refusal n s c true e ⌝ }
 {
     if 9 < e.code {
         return Verdict::Refuse(numbers::UNKNOWN_CODE);

@@ -1,5 +1,5 @@
 // The engine for programs in C and Rust: the six calls of include/wilzhoram.h, each thin over the call that does the work.
-// Any plant, any settings, any bytes; a refused call leaves every lent byte.
+// Any plant, any settings, any sender (T-04), any bytes; a refused call leaves every lent byte.
 use machine::Answer;
 use machine::Event;
 use machine::Plant;
@@ -8,6 +8,7 @@ use machine::Reading;
 use machine::Run;
 use machine::Site;
 ghost use mathlib.Core.Path.{_≡_};
+ghost use Rattle.machine.specs.Events.{sent};
 ghost use Rattle.machine.specs.Panel.{draw-number, drawn};
 ghost use Rattle.machine.specs.Preview.{preview-number, preview-written, preview-panel};
 ghost use Rattle.machine.specs.Sheet.{run, run-panel};
@@ -31,31 +32,37 @@ pub extern "C" fn wilzhoram_write(site: Site, book: &mut [u8]) -> u8
     book_write::write(site, book)
 }
 
-// One event: its number, the trains written off and the plant after it.
+// One event of a sender: its number, the trains written off and the plant after it.
 #[no_mangle]
-pub extern "C" fn wilzhoram_event(plant: Plant, event: Event) -> Answer
-    ensures { λ r. ⌜ r ≡ step plant event ⌝ }
+pub extern "C" fn wilzhoram_event(plant: Plant, sender: u8, event: Event) -> Answer
+    ensures { λ r. ⌜ r ≡ step plant (sent sender event) ⌝ }
 {
-    event::handle(plant, event)
+    event::handle(plant, sender, event)
 }
 
-// The panel drawn into a lent output.
+// What a sender sees of the panel, drawn into a lent output.
 #[no_mangle]
-pub extern "C" fn wilzhoram_draw(plant: Plant, panel: &mut [u8]) -> u8
-    ensures number { λ r. ⌜ r ≡ draw-number plant (now (panel .entry)) ⌝ }
-    ensures bytes { λ _. ⌜ now (panel .exit) ≡ drawn plant (now (panel .entry)) ⌝ }
+pub extern "C" fn wilzhoram_draw(plant: Plant, sender: u8, panel: &mut [u8]) -> u8
+    ensures number { λ r. ⌜ r ≡ draw-number plant sender (now (panel .entry)) ⌝ }
+    ensures bytes { λ _. ⌜ now (panel .exit) ≡ drawn plant sender (now (panel .entry)) ⌝ }
 {
-    panel::draw(plant, panel)
+    panel::draw(plant, sender, panel)
 }
 
-// One event previewed (T-03): its number and the trains written off, and what it would draw in a lent output.
+// One event of a sender previewed (T-03): its number and the trains written off, and what the sender would then see in a lent
+// output.
 #[no_mangle]
-pub extern "C" fn wilzhoram_preview(plant: Plant, event: Event, panel: &mut [u8]) -> Preview
-    ensures number { λ r. ⌜ r .number ≡ preview-number plant event (now (panel .entry)) ⌝ }
-    ensures written { λ r. ⌜ r .written ≡ preview-written plant event (now (panel .entry)) ⌝ }
-    ensures bytes { λ _. ⌜ now (panel .exit) ≡ preview-panel plant event (now (panel .entry)) ⌝ }
+pub extern "C" fn wilzhoram_preview(
+    plant: Plant,
+    sender: u8,
+    event: Event,
+    panel: &mut [u8],
+) -> Preview
+    ensures number { λ r. ⌜ r .number ≡ preview-number plant sender event (now (panel .entry)) ⌝ }
+    ensures written { λ r. ⌜ r .written ≡ preview-written plant sender event (now (panel .entry)) ⌝ }
+    ensures bytes { λ _. ⌜ now (panel .exit) ≡ preview-panel plant sender event (now (panel .entry)) ⌝ }
 {
-    preview::preview(plant, event, panel)
+    preview::preview(plant, sender, event, panel)
 }
 
 // A sheet run, and the panel after its last event drawn into a lent output.

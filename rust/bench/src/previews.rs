@@ -1,19 +1,21 @@
 //! The proved engine's preview: its time over that of the event and a drawing of the plant it
-//! gives, and over that of the plain engine's preview.
+//! gives, and over that of the plain engine's preview. Each event, its drawing and its preview are
+//! those of a sender that may send it.
 
 use crate::median;
 use compare::second::{proved_event, proved_plant};
 use engine::{code, number, panel_len, Plant, Site};
-use gen::{entry, event, junk_event, played, Rng};
+use gen::{entry, event, junk_event, played, Command, Rng};
 use std::time::Instant;
 
 const SEED: u64 = 3;
 /// Inputs of a row; each round goes through all of them.
 const INPUTS: usize = 32;
 
-/// A plant and an event, as each engine takes them.
+/// A plant, a sender and its event, as each engine takes them.
 struct Moment {
     plant: Plant,
+    sender: u8,
     event: [u8; 4],
     proved_plant: wilzhoram::Plant,
     proved_event: wilzhoram::Event,
@@ -26,18 +28,20 @@ type Outputs = Vec<((u8, u32), Vec<u8>)>;
 type Way = fn(&Moment, &mut [u8]) -> (u8, u32);
 
 fn previewed(moment: &Moment, panel: &mut [u8]) -> (u8, u32) {
-    let preview = wilzhoram::preview(moment.proved_plant, moment.proved_event, panel);
+    let (plant, event) = (moment.proved_plant, moment.proved_event);
+    let preview = wilzhoram::preview(plant, moment.sender, event, panel);
     (preview.number, preview.written)
 }
 
 fn pressed(moment: &Moment, panel: &mut [u8]) -> (u8, u32) {
-    let answer = wilzhoram::event(moment.proved_plant, moment.proved_event);
-    wilzhoram::draw(answer.plant, panel);
+    let (plant, event) = (moment.proved_plant, moment.proved_event);
+    let answer = wilzhoram::event(plant, moment.sender, event);
+    wilzhoram::draw(answer.plant, moment.sender, panel);
     (answer.number, answer.written)
 }
 
 fn plain(moment: &Moment, panel: &mut [u8]) -> (u8, u32) {
-    engine::preview(&moment.plant, moment.event, panel)
+    engine::preview(&moment.plant, moment.sender, moment.event, panel)
 }
 
 const WAYS: [Way; 3] = [previewed, pressed, plain];
@@ -82,7 +86,8 @@ fn measure(moments: &[Moment], rounds: usize) -> Option<[(Vec<f64>, f64); 3]> {
 
 /// Whether an event is of a row: taken with its code, or refused where it has none.
 fn suits(plant: &Plant, event: [u8; 4], code: Option<u8>) -> bool {
-    let taken = engine::event(&mut plant.clone(), event).0 == number::TAKEN;
+    let sender = Command::rightful(event).sender;
+    let taken = engine::event(&mut plant.clone(), sender, event).0 == number::TAKEN;
     match code {
         Some(code) => taken && event[0] == code,
         None => !taken,
@@ -103,6 +108,7 @@ fn moment(rng: &mut Rng, n: u8, code: Option<u8>) -> Moment {
         if let Some(event) = events.into_iter().find(|e| suits(&plant, *e, code)) {
             return Moment {
                 plant,
+                sender: Command::rightful(event).sender,
                 event,
                 proved_plant: proved_plant(&plant),
                 proved_event: proved_event(event),

@@ -1,7 +1,7 @@
 //! The sheets that are measured.
 
 use engine::{code, number, Plant, Site, MAX_EVENTS};
-use gen::{coherent, entry, event, sheet_bytes, Rng};
+use gen::{coherent, entry, event, sheet_bytes, Command, Rng};
 
 const SEED: u64 = 14;
 const TICK: [u8; 4] = [code::TICK, 0, 0, 0];
@@ -33,7 +33,10 @@ impl Sheet {
     /// The codes of the events that are taken, in turn.
     fn taken_codes(&self) -> Vec<u8> {
         let mut plant = self.plant;
-        let taken = |e: &&[u8; 4]| engine::event(&mut plant, **e).0 == number::TAKEN;
+        let taken = |e: &&[u8; 4]| {
+            let Command { sender, event } = Command::rightful(**e);
+            engine::event(&mut plant, sender, event).0 == number::TAKEN
+        };
         self.events.iter().filter(taken).map(|e| e[0]).collect()
     }
 

@@ -1,11 +1,13 @@
 //! One input for both engines, and how it is made.
 
+mod fixed;
+
+use crate::Command;
 use engine::{book_len, in_range, panel_len, Plant, Site, MAX_EVENTS};
 use gen::{
-    all_lengths, book, coherent, damaged_book, damaged_sheet, event, event_grid, every_boom,
-    every_flag, frame, junk_event, lost_plants, lost_reports, mixed, plant, played, preview_frame,
-    preview_grid, quick_site, sheet_bytes, site, spoilt_plant, swept_event, swept_grid,
-    swept_plant, BookDamage, Rng, SheetDamage, Spoil,
+    book, coherent, damaged_book, damaged_sheet, event, frame, junk_event, mixed, plant, played,
+    preview_frame, quick_site, sheet_bytes, site, spoilt_plant, swept_event, swept_plant,
+    BookDamage, Rng, Senders, SheetDamage, Spoil,
 };
 
 /// Takes the previews' numbers apart from those of the cases beside them.
@@ -23,10 +25,11 @@ pub enum Case {
     },
     Event {
         plant: Plant,
-        event: [u8; 4],
+        command: Command,
     },
     Draw {
         plant: Plant,
+        sender: u8,
         frame: Vec<u8>,
     },
     Run {
@@ -36,62 +39,42 @@ pub enum Case {
     },
     Preview {
         plant: Plant,
-        event: [u8; 4],
+        command: Command,
         frame: Vec<u8>,
     },
-    /// From the fresh plant of a book, event by event and as a sheet.
+    /// From the fresh plant of a book, event by event and, without the senders, as a sheet.
     Session {
         site: Site,
-        events: Vec<[u8; 4]>,
+        commands: Vec<Command>,
     },
 }
 
 impl Case {
-    /// Case `index` under `seed`.
+    /// Case `index` under `seed`. Senders have random numbers of their own.
     pub fn make(seed: u64, index: u64) -> Case {
         let rng = &mut Rng::of_case(seed, index);
+        let senders = &mut Senders::of_case(seed, index);
         match rng.weighted(&[4, 4, 16, 10, 4, 4]) {
             0 => read_case(rng),
             1 => write_case(rng),
-            2 => event_case(rng),
-            3 => draw_case(rng),
+            2 => event_case(rng, senders),
+            3 => draw_case(rng, senders),
             4 => run_case(rng),
-            _ => session_case(rng),
+            _ => session_case(rng, senders),
         }
     }
 
     /// The preview beside case `index` under `seed`.
     pub fn preview(seed: u64, index: u64) -> Case {
-        preview_case(&mut Rng::of_case(seed ^ PREVIEWS, index))
+        let seed = seed ^ PREVIEWS;
+        let senders = &mut Senders::of_case(seed, index);
+        preview_case(&mut Rng::of_case(seed, index), senders)
     }
 
     /// Session `index` under `seed`.
     pub fn session(seed: u64, index: u64) -> Case {
-        session_case(&mut Rng::of_case(seed, index))
-    }
-
-    /// The cases that do not depend on a seed: books of every length, a grid of events and
-    /// frames of every length on a few plants, swept counters at every kind, lost booms at
-    /// every kind that has them, and every value of every flag and of every boom report; then
-    /// grids of previews.
-    pub fn fixed() -> impl Iterator<Item = Case> {
-        let books = all_lengths().into_iter().map(|book| Case::Read { book });
-        let rng = &mut Rng::new(0);
-        let plants = [(); 12].map(|_| plant(rng)).into_iter();
-        let grids = plants.flat_map(|plant| {
-            let events = event_grid().into_iter();
-            let events = events.map(move |event| Case::Event { plant, event });
-            events.chain(all_frames(&plant))
-        });
-        let events = swept_grid().into_iter().chain(lost_reports());
-        let events = events.map(|(plant, event)| Case::Event { plant, event });
-        let lost = lost_plants().into_iter().flat_map(|plant| {
-            let [tick, draw, _] = calls(plant);
-            [tick, draw]
-        });
-        let bytes = every_flag().chain(every_boom()).flat_map(calls);
-        let all = books.chain(grids).chain(events).chain(lost).chain(bytes);
-        all.chain(fixed_previews())
+        let senders = &mut Senders::of_case(seed, index);
+        session_case(&mut Rng::of_case(seed, index), senders)
     }
 
     pub fn name(&self) -> &'static str {
@@ -105,59 +88,6 @@ impl Case {
             Case::Session { .. } => "session",
         }
     }
-}
-
-/// Frames of every length up to 140 for the three calls that are lent one.
-fn all_frames(plant: &Plant) -> Vec<Case> {
-    let mut cases = Vec::new();
-    for len in 0..=140 {
-        let frame = vec![0xa5; len];
-        cases.push(Case::Write {
-            site: plant.site,
-            frame: frame.clone(),
-        });
-        cases.push(Case::Draw {
-            plant: *plant,
-            frame: frame.clone(),
-        });
-        cases.push(Case::Run {
-            plant: *plant,
-            sheet: sheet_bytes(&[[0; 4]]),
-            frame,
-        });
-    }
-    cases
-}
-
-/// A tick, a panel and a sheet of one tick.
-fn calls(plant: Plant) -> [Case; 3] {
-    let event = [0; 4];
-    let frame = vec![0xa5; panel_len(plant.site.n)];
-    let run = Case::Run {
-        plant,
-        sheet: sheet_bytes(&[event]),
-        frame: frame.clone(),
-    };
-    [
-        Case::Event { plant, event },
-        Case::Draw { plant, frame },
-        run,
-    ]
-}
-
-/// Grids of previews, and every value of every flag and of every boom report.
-fn fixed_previews() -> impl Iterator<Item = Case> {
-    let tick = |plant: Plant| (plant, [0; 4], panel_len(plant.site.n));
-    let bytes = every_flag().chain(every_boom()).map(tick);
-    bytes.chain(preview_grid()).map(|(plant, event, len)| {
-        // Bytes of some older panel, each another than its neighbour.
-        let frame = (0..len).map(|i| 0xa5 ^ i as u8).collect();
-        Case::Preview {
-            plant,
-            event,
-            frame,
-        }
-    })
 }
 
 fn read_case(rng: &mut Rng) -> Case {
@@ -195,9 +125,10 @@ fn any_plant(rng: &mut Rng) -> Plant {
     }
 }
 
-fn event_case(rng: &mut Rng) -> Case {
+fn event_case(rng: &mut Rng, senders: &mut Senders) -> Case {
     let (plant, event) = moment(rng);
-    Case::Event { plant, event }
+    let command = senders.send(event);
+    Case::Event { plant, command }
 }
 
 /// Any plant and an event for it.
@@ -220,7 +151,7 @@ fn any_event(rng: &mut Rng, plant: &Plant) -> [u8; 4] {
 }
 
 /// Any moment, or once in eight one deep in play.
-fn preview_case(rng: &mut Rng) -> Case {
+fn preview_case(rng: &mut Rng, senders: &mut Senders) -> Case {
     let (plant, event) = match rng.below(8) {
         0 => {
             let fresh = Plant::fresh(&quick_site(rng));
@@ -230,18 +161,20 @@ fn preview_case(rng: &mut Rng) -> Case {
         }
         _ => moment(rng),
     };
-    let frame = preview_frame(rng, plant.site.n);
     Case::Preview {
         plant,
-        event,
-        frame,
+        command: senders.send(event),
+        frame: preview_frame(rng, plant.site.n),
     }
 }
 
-fn draw_case(rng: &mut Rng) -> Case {
+fn draw_case(rng: &mut Rng, senders: &mut Senders) -> Case {
     let plant = any_plant(rng);
-    let frame = frame(rng, panel_len(plant.site.n));
-    Case::Draw { plant, frame }
+    Case::Draw {
+        plant,
+        sender: senders.look(),
+        frame: frame(rng, panel_len(plant.site.n)),
+    }
 }
 
 fn run_case(rng: &mut Rng) -> Case {
@@ -268,7 +201,7 @@ fn run_case(rng: &mut Rng) -> Case {
     }
 }
 
-fn session_case(rng: &mut Rng) -> Case {
+fn session_case(rng: &mut Rng, senders: &mut Senders) -> Case {
     let site = match rng.below(3) {
         0 => site(rng),
         _ => quick_site(rng),
@@ -285,5 +218,6 @@ fn session_case(rng: &mut Rng) -> Case {
         0 => mixed(rng, &fresh, len),
         _ => coherent(rng, &fresh, len),
     };
-    Case::Session { site, events }
+    let commands = events.into_iter().map(|e| senders.send(e)).collect();
+    Case::Session { site, commands }
 }

@@ -1,8 +1,8 @@
 //! The chart rows of document 01 that carry no star, one of them as document 02, T-01, has it,
 //! played on an engine.
 
-use crate::Engine;
-use engine::{number, Plant};
+use crate::{Command, Engine};
+use engine::{number, sender, Plant};
 use gen::book_bytes;
 
 const TICK: [u8; 4] = [0, 0, 0, 0];
@@ -68,7 +68,8 @@ const TRACKS: [Track; 3] = [
 
 /// Whether so many of an event are taken, each writing off so many trains.
 fn takes(engine: &dyn Engine, plant: &mut Plant, e: [u8; 4], count: u32, off: u32) -> bool {
-    (0..count).all(|_| engine.event(plant, e) == (number::TAKEN, off))
+    let command = Command::rightful(e);
+    (0..count).all(|_| engine.event(plant, command) == (number::TAKEN, off))
 }
 
 /// Whether the crossing holds these: calling, waiting, unsure, phase.
@@ -107,18 +108,16 @@ fn swept(engine: &dyn Engine, kind: u8, track: &Track) -> bool {
 /// The bit of byte 9 for a crossing that is out of normal for too long.
 fn overdue(engine: &dyn Engine, plant: &Plant) -> Option<bool> {
     let mut panel = [0; 16];
-    let drawn = engine.draw(plant, &mut panel) == number::TAKEN;
+    let drawn = engine.draw(plant, sender::DETECTION, &mut panel) == number::TAKEN;
     drawn.then_some(panel[9] & 4 == 4)
 }
 
 /// After a strike-in, 900 ticks leave bit 4 clear, 901 set it.
 fn long_out(engine: &dyn Engine, kind: u8) -> bool {
-    let mut plant = fresh(engine, kind, 0);
-    engine.event(&mut plant, STRIKE_IN);
-    let ticked = (0..900).all(|_| engine.event(&mut plant, TICK) == (number::TAKEN, 0));
-    let clear = overdue(engine, &plant) == Some(false);
-    engine.event(&mut plant, TICK);
-    ticked && clear && overdue(engine, &plant) == Some(true)
+    let p = &mut fresh(engine, kind, 0);
+    let ticked = takes(engine, p, STRIKE_IN, 1, 0) && takes(engine, p, TICK, 900, 0);
+    let clear = overdue(engine, p) == Some(false);
+    ticked && clear && takes(engine, p, TICK, 1, 0) && overdue(engine, p) == Some(true)
 }
 
 /// Both rows for every kind; the rows that do not hold, in words.

@@ -1,12 +1,14 @@
 //! Puts one case to both engines and looks for a difference.
 
 mod previews;
+mod senders;
+mod sessions;
 
 use crate::case::Case;
 use crate::print::hex;
-use crate::Engine;
-use engine::{book_len, panel_len, Plant, Site};
-use gen::{book_bytes, sheet_bytes, Call, Coverage};
+use crate::{Command, Engine};
+use engine::{number, Plant, Run, Site};
+use gen::{Call, Coverage};
 use std::fmt::Debug;
 
 /// The two engines, the plain one first.
@@ -19,11 +21,11 @@ pub struct Pair<'a> {
 /// What differs, in words.
 pub type Check = Result<(), String>;
 
-/// In a session one event of so many is previewed, and the last.
-const LOOK_EVERY: usize = 8;
-
 /// What each engine is lent for a panel.
 type Frames = [Vec<u8>; 2];
+
+/// A number and the trains written off.
+type Answer = (u8, u32);
 
 impl Pair<'_> {
     /// Compares every answer, plant and lent byte of a case; counts what the first did.
@@ -31,13 +33,19 @@ impl Pair<'_> {
         match case {
             Case::Read { book } => self.read(book, seen),
             Case::Write { site, frame } => self.write(site, frame, seen),
-            Case::Event { plant, event } => {
+            Case::Event { plant, command } => {
                 seen.handed(Call::Event, plant);
-                self.event(&mut plant.clone(), *event, seen).map(|_| ())
+                let mut after = *plant;
+                let answer = self.event(&mut after, *command, seen)?;
+                self.rights(plant, *command, answer, &after)
             }
-            Case::Draw { plant, frame } => {
+            Case::Draw {
+                plant,
+                sender,
+                frame,
+            } => {
                 seen.handed(Call::Draw, plant);
-                self.lent(plant, frame, seen)
+                self.lent(plant, *sender, frame, seen)
             }
             Case::Run {
                 plant,
@@ -45,17 +53,17 @@ impl Pair<'_> {
                 frame,
             } => {
                 seen.handed(Call::Run, plant);
-                self.run(plant, sheet, frame, seen)
+                self.run(plant, sheet, frame, seen).map(|_| ())
             }
             Case::Preview {
                 plant,
-                event,
+                command,
                 frame,
             } => {
                 seen.handed(Call::Preview, plant);
-                self.preview(plant, *event, frame, seen)
+                self.preview(plant, *command, frame, seen)
             }
-            Case::Session { site, events } => self.session(site, events, seen),
+            Case::Session { site, commands } => self.session(site, commands, seen),
         }
     }
 
@@ -95,19 +103,19 @@ impl Pair<'_> {
         Ok(())
     }
 
-    /// One event; `plant` becomes the plant after it. Gives the number and the written-off count.
+    /// One event; `plant` becomes the plant after it.
     fn event(
         &self,
         plant: &mut Plant,
-        e: [u8; 4],
+        command: Command,
         seen: &mut Coverage,
-    ) -> Result<(u8, u32), String> {
+    ) -> Result<Answer, String> {
         let before = *plant;
         let mut other_plant = before;
-        let answer = self.first.event(plant, e);
-        let other = self.second.event(&mut other_plant, e);
-        seen.event(&before, e, answer, plant);
+        let answer = self.first.event(plant, command);
+        let other = self.second.event(&mut other_plant, command);
         same("number and written off", &answer, &other)?;
+        seen.event(&before, command, answer, plant);
         if answer.0 != 0 {
             same_plant(&before, &other_plant)?;
         }
@@ -116,30 +124,39 @@ impl Pair<'_> {
     }
 
     /// One panel into a frame for each engine, both with the same bytes; gives the number.
-    fn draw(&self, plant: &Plant, frames: &mut Frames, seen: &mut Coverage) -> Result<u8, String> {
+    fn draw(
+        &self,
+        plant: &Plant,
+        sender: u8,
+        frames: &mut Frames,
+        seen: &mut Coverage,
+    ) -> Result<u8, String> {
         let [frame, other_frame] = frames;
-        let number = self.first.draw(plant, frame);
-        let other = self.second.draw(plant, other_frame);
-        seen.call(Call::Draw, number);
+        let number = self.first.draw(plant, sender, frame);
+        let other = self.second.draw(plant, sender, other_frame);
         same("number of a panel", &number, &other)?;
-        if number == 0 {
-            seen.panel(plant, frame);
-        }
+        seen.draw(plant, sender, number, frame);
         same_bytes("panel", frame, other_frame)?;
         Ok(number)
     }
 
     /// One panel into a frame as it was lent.
-    fn lent(&self, plant: &Plant, frame: &[u8], seen: &mut Coverage) -> Check {
+    fn lent(&self, plant: &Plant, sender: u8, frame: &[u8], seen: &mut Coverage) -> Check {
         let mut frames = [frame.to_vec(), frame.to_vec()];
-        match self.draw(plant, &mut frames, seen)? {
-            0 => Ok(()),
+        match self.draw(plant, sender, &mut frames, seen)? {
+            number::TAKEN => self.view(plant, sender, &frames[1]),
             _ => same_bytes("panel of a refused call", frame, &frames[1]),
         }
     }
 
-    /// One run.
-    fn run(&self, plant: &Plant, sheet: &[u8], frame: &[u8], seen: &mut Coverage) -> Check {
+    /// One run; gives its answer, the plant after it and the panel.
+    fn run(
+        &self,
+        plant: &Plant,
+        sheet: &[u8],
+        frame: &[u8],
+        seen: &mut Coverage,
+    ) -> Result<(Run, Plant, Vec<u8>), String> {
         let (mut after, mut other_after) = (*plant, *plant);
         let (mut panel, mut other_panel) = (frame.to_vec(), frame.to_vec());
         let answer = self.first.run(&mut after, sheet, &mut panel);
@@ -151,48 +168,8 @@ impl Pair<'_> {
             same_bytes("panel of a refused run", frame, &other_panel)?;
         }
         same_plant(&after, &other_after)?;
-        same_bytes("panel of a run", &panel, &other_panel)
-    }
-
-    /// One event of a list and the panel after it; gives the event's answer.
-    fn step(
-        &self,
-        plant: &mut Plant,
-        e: [u8; 4],
-        frames: &mut Frames,
-        seen: &mut Coverage,
-    ) -> Result<(u8, u32), String> {
-        let answer = self.event(plant, e, seen)?;
-        // A refused event leaves the plant, whose panel was drawn before.
-        if answer.0 == 0 {
-            self.draw(plant, frames, seen)?;
-        }
-        Ok(answer)
-    }
-
-    fn session(&self, site: &Site, events: &[[u8; 4]], seen: &mut Coverage) -> Check {
-        let book = book_bytes(site);
-        self.read(&book, seen)?;
-        let (_, mut plant) = self.first.read_book(&book);
-        let lent = vec![0xc3; panel_len(site.n)];
-        self.run(&plant, &sheet_bytes(events), &lent, seen)?;
-        let mut frames = [lent.clone(), lent.clone()];
-        self.draw(&plant, &mut frames, seen)?;
-        for (i, e) in events.iter().enumerate() {
-            let looks = i % LOOK_EVERY == 0 || i + 1 == events.len();
-            let step = match looks {
-                true => self.looked_step(&mut plant, *e, &mut frames, &lent, seen),
-                false => self.step(&mut plant, *e, &mut frames, seen).map(|_| ()),
-            };
-            step.map_err(|what| format!("event {i}: {what}"))?;
-        }
-        for engine in [self.first, self.second] {
-            let mut back = vec![0; book_len(site.n)];
-            let number = engine.write_book(&plant.site, &mut back);
-            same("write of the site", &0, &number)?;
-            same_bytes("book of the site", &book, &back)?;
-        }
-        Ok(())
+        same_bytes("panel of a run", &panel, &other_panel)?;
+        Ok((answer, after, panel))
     }
 }
 

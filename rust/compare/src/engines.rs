@@ -1,6 +1,6 @@
 //! The plain engine, as it is and with planted faults.
 
-use crate::{Engine, Plant, Run, Site};
+use crate::{Command, Engine, Plant, Run, Site};
 use faults::Fault;
 
 /// The plain engine.
@@ -19,16 +19,16 @@ impl Engine for Plain {
         engine::write_book(site, out)
     }
 
-    fn event(&self, plant: &mut Plant, event: [u8; 4]) -> (u8, u32) {
-        engine::event(plant, event)
+    fn event(&self, plant: &mut Plant, Command { sender, event }: Command) -> (u8, u32) {
+        engine::event(plant, sender, event)
     }
 
-    fn draw(&self, plant: &Plant, panel: &mut [u8]) -> u8 {
-        engine::draw(plant, panel)
+    fn draw(&self, plant: &Plant, sender: u8, panel: &mut [u8]) -> u8 {
+        engine::draw(plant, sender, panel)
     }
 
-    fn preview(&self, plant: &Plant, event: [u8; 4], panel: &mut [u8]) -> (u8, u32) {
-        engine::preview(plant, event, panel)
+    fn preview(&self, plant: &Plant, command: Command, panel: &mut [u8]) -> (u8, u32) {
+        engine::preview(plant, command.sender, command.event, panel)
     }
 
     fn run(&self, plant: &mut Plant, sheet: &[u8], panel: &mut [u8]) -> Run {
@@ -52,16 +52,16 @@ impl Engine for Planted {
         (self.0.calls.write_book)(site, out)
     }
 
-    fn event(&self, plant: &mut Plant, event: [u8; 4]) -> (u8, u32) {
-        (self.0.calls.event)(plant, event)
+    fn event(&self, plant: &mut Plant, Command { sender, event }: Command) -> (u8, u32) {
+        (self.0.calls.event)(plant, sender, event)
     }
 
-    fn draw(&self, plant: &Plant, panel: &mut [u8]) -> u8 {
-        (self.0.calls.draw)(plant, panel)
+    fn draw(&self, plant: &Plant, sender: u8, panel: &mut [u8]) -> u8 {
+        (self.0.calls.draw)(plant, sender, panel)
     }
 
-    fn preview(&self, plant: &Plant, event: [u8; 4], panel: &mut [u8]) -> (u8, u32) {
-        (self.0.calls.preview)(plant, event, panel)
+    fn preview(&self, plant: &Plant, command: Command, panel: &mut [u8]) -> (u8, u32) {
+        (self.0.calls.preview)(plant, command.sender, command.event, panel)
     }
 
     fn run(&self, plant: &mut Plant, sheet: &[u8], panel: &mut [u8]) -> Run {

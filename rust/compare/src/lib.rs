@@ -12,14 +12,15 @@ pub mod shrink;
 pub mod stack;
 
 pub use engine::{Plant, Run, Site};
+pub use gen::Command;
 
 /// The six calls of a crossing engine.
 pub trait Engine {
     fn name(&self) -> String;
     fn read_book(&self, book: &[u8]) -> (u8, Plant);
     fn write_book(&self, site: &Site, out: &mut [u8]) -> u8;
-    fn event(&self, plant: &mut Plant, event: [u8; 4]) -> (u8, u32);
-    fn draw(&self, plant: &Plant, panel: &mut [u8]) -> u8;
-    fn preview(&self, plant: &Plant, event: [u8; 4], panel: &mut [u8]) -> (u8, u32);
+    fn event(&self, plant: &mut Plant, command: Command) -> (u8, u32);
+    fn draw(&self, plant: &Plant, sender: u8, panel: &mut [u8]) -> u8;
+    fn preview(&self, plant: &Plant, command: Command, panel: &mut [u8]) -> (u8, u32);
     fn run(&self, plant: &mut Plant, sheet: &[u8], panel: &mut [u8]) -> Run;
 }

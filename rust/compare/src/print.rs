@@ -16,12 +16,25 @@ pub fn files(case: &Case) -> (Option<Vec<u8>>, Option<Vec<u8>>) {
     match case {
         Case::Read { book } => (Some(book.clone()), None),
         Case::Write { site, .. } => (book(site), None),
-        Case::Event { plant, event } | Case::Preview { plant, event, .. } => {
-            (book(&plant.site), Some(sheet_bytes(&[*event])))
+        Case::Event { plant, command } | Case::Preview { plant, command, .. } => {
+            (book(&plant.site), Some(sheet_bytes(&[command.event])))
         }
         Case::Draw { plant, .. } => (book(&plant.site), Some(sheet_bytes(&[]))),
         Case::Run { plant, sheet, .. } => (book(&plant.site), Some(sheet.clone())),
-        Case::Session { site, events } => (book(site), Some(sheet_bytes(events))),
+        Case::Session { site, commands } => {
+            let events: Vec<[u8; 4]> = commands.iter().map(|c| c.event).collect();
+            (book(site), Some(sheet_bytes(&events)))
+        }
+    }
+}
+
+/// The senders of a case in turn; a sheet has none.
+fn senders(case: &Case) -> Vec<u8> {
+    match case {
+        Case::Event { command, .. } | Case::Preview { command, .. } => vec![command.sender],
+        Case::Draw { sender, .. } => vec![*sender],
+        Case::Session { commands, .. } => commands.iter().map(|c| c.sender).collect(),
+        _ => vec![],
     }
 }
 
@@ -30,7 +43,7 @@ pub fn event_count(case: &Case) -> usize {
     match case {
         Case::Event { .. } | Case::Preview { .. } => 1,
         Case::Run { sheet, .. } => sheet.len().saturating_sub(2) / 4,
-        Case::Session { events, .. } => events.len(),
+        Case::Session { commands, .. } => commands.len(),
         _ => 0,
     }
 }
@@ -86,6 +99,10 @@ pub fn text(case: &Case) -> String {
     }
     if let Some(sheet) = sheet {
         let _ = writeln!(text, "sheet.bin {}", hex(&sheet));
+    }
+    let senders = senders(case);
+    if !senders.is_empty() {
+        let _ = writeln!(text, "senders   {}", hex(&senders));
     }
     if let Some(len) = lent(case) {
         let _ = writeln!(text, "lent      {len} bytes");

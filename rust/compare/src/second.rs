@@ -1,7 +1,7 @@
 //! The proved engine, which the plain one is compared with.
 
 use crate::stack::Stack;
-use crate::Engine;
+use crate::{Command, Engine};
 use engine::{Crossing, Entry, Plant, Run, Site};
 
 /// The proved engine, on the thread's whole stack or on the last bytes of it.
@@ -34,21 +34,21 @@ impl Engine for Proved {
         self.call(|| wilzhoram::write(site, out))
     }
 
-    fn event(&self, plant: &mut Plant, event: [u8; 4]) -> (u8, u32) {
+    fn event(&self, plant: &mut Plant, Command { sender, event }: Command) -> (u8, u32) {
         let (before, event) = (proved_plant(plant), proved_event(event));
-        let answer = self.call(|| wilzhoram::event(before, event));
+        let answer = self.call(|| wilzhoram::event(before, sender, event));
         *plant = plain_plant(&answer.plant);
         (answer.number, answer.written)
     }
 
-    fn draw(&self, plant: &Plant, panel: &mut [u8]) -> u8 {
+    fn draw(&self, plant: &Plant, sender: u8, panel: &mut [u8]) -> u8 {
         let plant = proved_plant(plant);
-        self.call(|| wilzhoram::draw(plant, panel))
+        self.call(|| wilzhoram::draw(plant, sender, panel))
     }
 
-    fn preview(&self, plant: &Plant, event: [u8; 4], panel: &mut [u8]) -> (u8, u32) {
-        let (plant, event) = (proved_plant(plant), proved_event(event));
-        let preview = self.call(|| wilzhoram::preview(plant, event, panel));
+    fn preview(&self, plant: &Plant, command: Command, panel: &mut [u8]) -> (u8, u32) {
+        let (plant, event) = (proved_plant(plant), proved_event(command.event));
+        let preview = self.call(|| wilzhoram::preview(plant, command.sender, event, panel));
         (preview.number, preview.written)
     }
 

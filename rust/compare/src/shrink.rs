@@ -2,6 +2,7 @@
 
 use crate::candidates::candidates;
 use crate::case::Case;
+use crate::Command;
 use engine::{Crossing, Entry, Plant, Site};
 use gen::{sheet_bytes, sheet_events};
 
@@ -61,12 +62,22 @@ fn plant_weight(plant: &Plant) -> u64 {
     site_weight(&plant.site) + u64::from(plant.beat) + records
 }
 
+/// A sender that may send the event weighs less than any that may not.
+fn command_weight(command: &Command) -> u64 {
+    let wrong = if command.has_right() { 0 } else { 256 };
+    bytes_weight(&command.event) + wrong + u64::from(command.sender)
+}
+
 fn weight(case: &Case) -> u64 {
     match case {
         Case::Read { book } => bytes_weight(book),
         Case::Write { site, frame } => site_weight(site) + bytes_weight(frame),
-        Case::Event { plant, event } => plant_weight(plant) + bytes_weight(event),
-        Case::Draw { plant, frame } => plant_weight(plant) + bytes_weight(frame),
+        Case::Event { plant, command } => plant_weight(plant) + command_weight(command),
+        Case::Draw {
+            plant,
+            sender,
+            frame,
+        } => plant_weight(plant) + u64::from(*sender) + bytes_weight(frame),
         Case::Run {
             plant,
             sheet,
@@ -74,60 +85,88 @@ fn weight(case: &Case) -> u64 {
         } => plant_weight(plant) + bytes_weight(sheet) + bytes_weight(frame),
         Case::Preview {
             plant,
-            event,
+            command,
             frame,
-        } => plant_weight(plant) + bytes_weight(event) + bytes_weight(frame),
-        Case::Session { site, events } => site_weight(site) + bytes_weight(events.as_flattened()),
+        } => plant_weight(plant) + command_weight(command) + bytes_weight(frame),
+        Case::Session { site, commands } => {
+            site_weight(site) + commands.iter().map(command_weight).sum::<u64>()
+        }
     }
 }
 
+/// Whether a list of events still fails.
+type Still<'a> = &'a mut dyn FnMut(&[Command]) -> bool;
+
 /// Leaves out events: those at the end, all of one code, all of one crossing, then runs, long
-/// ones first.
+/// ones first; then each that can comes from one who may send it.
 fn shrink_events(case: Case, fails: Fails) -> Case {
-    let Some(mut events) = events_of(&case) else {
+    let Some(mut list) = commands_of(&case) else {
         return case;
     };
-    let mut still = |list: &[[u8; 4]]| fails(&with_events(&case, list));
-    events.truncate(beginning(&events, &mut still));
+    let mut still = |list: &[Command]| fails(&with_commands(&case, list));
+    list.truncate(beginning(&list, &mut still));
     for field in 0..2 {
         for value in 0..=255 {
-            let mut shorter = events.clone();
-            shorter.retain(|e| e[field] != value || field == 1 && e[0] == 0);
-            if shorter.len() < events.len() && still(&shorter) {
-                events = shorter;
+            let mut shorter = list.clone();
+            shorter.retain(|c| c.event[field] != value || field == 1 && c.event[0] == 0);
+            if shorter.len() < list.len() && still(&shorter) {
+                list = shorter;
             }
         }
     }
-    let mut size = events.len();
+    let mut size = list.len();
     while size > 0 {
-        leave_out(&mut events, size, &mut still);
+        leave_out(&mut list, size, &mut still);
         size /= 2;
     }
-    with_events(&case, &events)
+    make_rightful(&mut list, &mut still);
+    with_commands(&case, &list)
 }
 
-/// The events of a case that has a list of them.
-fn events_of(case: &Case) -> Option<Vec<[u8; 4]>> {
+/// The events of a case that has a list of them; a sheet's are as from one who may send them.
+fn commands_of(case: &Case) -> Option<Vec<Command>> {
     match case {
-        Case::Session { events, .. } => Some(events.clone()),
-        Case::Run { sheet, .. } => sheet_events(sheet),
+        Case::Session { commands, .. } => Some(commands.clone()),
+        Case::Run { sheet, .. } => {
+            let events = sheet_events(sheet)?.into_iter();
+            Some(events.map(Command::rightful).collect())
+        }
         _ => None,
     }
 }
 
 /// The case with another list of events.
-fn with_events(case: &Case, list: &[[u8; 4]]) -> Case {
+fn with_commands(case: &Case, list: &[Command]) -> Case {
     let mut changed = case.clone();
     match &mut changed {
-        Case::Session { events, .. } => *events = list.to_vec(),
-        Case::Run { sheet, .. } => *sheet = sheet_bytes(list),
+        Case::Session { commands, .. } => *commands = list.to_vec(),
+        Case::Run { sheet, .. } => {
+            let events: Vec<[u8; 4]> = list.iter().map(|command| command.event).collect();
+            *sheet = sheet_bytes(&events);
+        }
         _ => {}
     }
     changed
 }
 
+/// All from those who may send them, or as many as can be.
+fn make_rightful(list: &mut Vec<Command>, still: Still) {
+    let rightful = |command: &Command| Command::rightful(command.event);
+    let all: Vec<Command> = list.iter().map(rightful).collect();
+    if all != *list && still(&all) {
+        *list = all;
+    }
+    for i in 0..list.len() {
+        let mut changed = list.clone();
+        changed[i] = rightful(&list[i]);
+        if !list[i].has_right() && changed != *list && still(&changed) {
+            *list = changed;
+        }
+    }
+}
+
 /// The length of a short beginning that still fails.
-fn beginning(events: &[[u8; 4]], still: &mut dyn FnMut(&[[u8; 4]]) -> bool) -> usize {
+fn beginning(events: &[Command], still: Still) -> usize {
     let (mut low, mut high) = (0, events.len());
     while low < high {
         let middle = (low + high) / 2;
@@ -139,7 +178,7 @@ fn beginning(events: &[[u8; 4]], still: &mut dyn FnMut(&[[u8; 4]]) -> bool) -> u
     high
 }
 
-fn leave_out(events: &mut Vec<[u8; 4]>, size: usize, still: &mut dyn FnMut(&[[u8; 4]]) -> bool) {
+fn leave_out(events: &mut Vec<Command>, size: usize, still: Still) {
     let mut end = events.len();
     while end > 0 {
         let start = end.saturating_sub(size);

@@ -1,10 +1,11 @@
 //! The train account, the passage rule and the opening tick over generated sessions, with lost
 //! reports in their lists (document 02, T-02), and document 02, T-01, that an unsure track keeps
 //! its crossing out of normal position: with reasons and trains worked out from the list of
-//! events alone.
+//! events alone, taken from any sender (document 02, T-04).
 
 use compare::case::Case;
-use engine::{boom, draw, event, panel_len, Entry, Plant, Site, PANEL};
+use compare::Command;
+use engine::{boom, draw, event, number, panel_len, sender, Entry, Plant, Site, PANEL};
 
 /// What the list says of one crossing.
 #[derive(Clone, Copy, Default)]
@@ -142,31 +143,50 @@ fn hold(account: &Account, plant: &Plant, i: usize, panel: &[u8]) -> bool {
         assert_eq!(panel[4..6], [0, 0]);
         if account.booms == [boom::UP; 4] {
             let mut after = *plant;
-            assert_eq!(event(&mut after, [0; 4]).0, 0);
+            assert_eq!(event(&mut after, sender::DETECTION, [0; 4]).0, 0);
             let mut panel = vec![0; panel_len(plant.site.n)];
-            assert_eq!(draw(&after, &mut panel), 0);
+            assert_eq!(draw(&after, sender::DETECTION, &mut panel), 0);
             assert_eq!(panel[PANEL * i + 9] & 1, 1);
         }
     }
     passes
 }
 
-/// How often trains may pass at a crossing after a lost report, by kind.
-fn session(site: &Site, events: &[[u8; 4]], after_lost: &mut [u32; 5]) {
+/// How often trains may pass at a crossing after a lost report, by kind; and how many events were
+/// refused for their sender, which each come again from one who may send them.
+#[derive(Default)]
+struct Met {
+    after_lost: [u32; 5],
+    refused: u32,
+}
+
+/// The list as it is sent.
+fn sent(plant: &mut Plant, command: Command, met: &mut Met) -> (u8, u32) {
+    let answer = event(plant, command.sender, command.event);
+    if ![number::UNKNOWN_SENDER, number::NO_RIGHT].contains(&answer.0) {
+        return answer;
+    }
+    met.refused += 1;
+    assert_eq!(answer.1, 0);
+    let rightful = Command::rightful(command.event);
+    event(plant, rightful.sender, rightful.event)
+}
+
+fn session(site: &Site, commands: &[Command], met: &mut Met) {
     let mut plant = Plant::fresh(site);
     let mut accounts = [Account::default(); 8];
     let mut panel = vec![0; panel_len(site.n)];
     let mut answered = 0;
-    for e in events {
-        let (number, written_off) = event(&mut plant, *e);
+    for command in commands {
+        let (number, written_off) = sent(&mut plant, *command, met);
         if number == 0 {
-            play(&mut accounts, site, *e);
+            play(&mut accounts, site, command.event);
         }
         answered += written_off;
-        assert_eq!(draw(&plant, &mut panel), 0);
+        assert_eq!(draw(&plant, sender::DETECTION, &mut panel), 0);
         for (i, bytes) in panel.chunks_exact(PANEL).enumerate() {
             if hold(&accounts[i], &plant, i, bytes) && accounts[i].lost {
-                after_lost[usize::from(site.entries[i].kind)] += 1;
+                met.after_lost[usize::from(site.entries[i].kind)] += 1;
             }
         }
     }
@@ -176,12 +196,13 @@ fn session(site: &Site, events: &[[u8; 4]], after_lost: &mut [u32; 5]) {
 
 #[test]
 fn the_parts_hold_after_every_event() {
-    let mut after_lost = [0; 5];
+    let mut met = Met::default();
     for index in 0..1500 {
-        let Case::Session { site, events } = Case::session(9, index) else {
+        let Case::Session { site, commands } = Case::session(9, index) else {
             panic!("not a session");
         };
-        session(&site, &events, &mut after_lost);
+        session(&site, &commands, &mut met);
     }
-    assert!(after_lost[2..].iter().all(|count| *count > 0));
+    assert!(met.after_lost[2..].iter().all(|count| *count > 0));
+    assert!(met.refused > 1000);
 }

@@ -6,7 +6,7 @@ use compare::engines::{Plain, Planted};
 use compare::print::{start, text};
 use compare::search::{find_fault, reduce, search, search_fixed, Plan};
 use compare::second::Proved;
-use compare::{Plant, Site};
+use compare::{Command, Plant, Site};
 use faults::FAULTS;
 use gen::{flags, Coverage};
 
@@ -16,7 +16,7 @@ const SESSIONS: u64 = 400;
 /// Faults that no list of events from a fresh plant can show: in the lent frames, in the
 /// order of refusals of a book, in spoilt plants, a repeated hold, since a hold stands in the
 /// way of a running countdown, and normal position with an unsure track, which is never reached.
-const NOT_FROM_FRESH: [&str; 33] = [
+const NOT_FROM_FRESH: [&str; 39] = [
     "book_any_gap",
     "book_frame_first",
     "book_length_first",
@@ -31,9 +31,11 @@ const NOT_FROM_FRESH: [&str; 33] = [
     "preview_count_of_wrong_frame",
     "preview_event_before_frame",
     "preview_frame_before_range",
+    "preview_frame_before_sender",
     "preview_length_as_a_byte",
     "preview_length_as_two_bytes",
     "preview_longer_frame",
+    "preview_right_before_frame",
     "preview_shorter_frame",
     "range_flags",
     "range_flags_lamps",
@@ -49,6 +51,10 @@ const NOT_FROM_FRESH: [&str; 33] = [
     "range_unsure_lacking",
     "range_unsure_past_n",
     "range_waiting_plain",
+    "sender_after_frame_draw",
+    "sender_before_range_draw",
+    "sender_before_range_event",
+    "sender_before_range_preview",
     "sheet_frame_first",
 ];
 
@@ -124,30 +130,40 @@ fn without_a_fault_nothing_differs_and_all_is_reached() {
     assert!(missing.is_empty(), "{missing:?}");
 }
 
-/// Faults of a preview that show only beside an engine without them: they are in the order of
-/// refusals, or take a wrong frame for a right one.
-const NOT_BY_ITSELF: [&str; 8] = [
+/// Faults of a preview, of rights, senders and views that show only beside an engine without
+/// them: they are in the order of 14 to 16 and others, or take a wrong frame for a right one.
+const NOT_BY_ITSELF: [&str; 14] = [
     "preview_code_before_frame",
     "preview_code_before_range",
     "preview_event_before_frame",
     "preview_frame_before_range",
+    "preview_frame_before_sender",
     "preview_length_as_a_byte",
     "preview_length_as_two_bytes",
     "preview_longer_frame",
+    "preview_right_before_frame",
     "preview_shorter_frame",
+    "sender_after_frame_draw",
+    "sender_before_range_draw",
+    "sender_before_range_event",
+    "sender_before_range_preview",
 ];
+/// The beginnings of their names.
+const BY_ITSELF: [&str; 4] = ["preview_", "rights_", "sender_", "view_"];
 
-/// An engine's preview is held against its own event and drawing.
+/// An engine's preview is held against its own event and drawing, its event against its own sheet
+/// and the senders' rights, and what it draws against its own panel for detection.
 #[test]
-fn both_engines_with_the_same_fault_in_the_preview() {
+fn both_engines_with_the_same_fault() {
     let missed = FAULTS.iter().filter(|fault| {
         let planted = &Planted(fault);
         let pair = Pair {
             first: planted,
             second: planted,
         };
-        let plan = Plan::of_cases(1, CASES);
-        fault.name.starts_with("preview") && search(pair, plan, &mut |_, _| {}).difference.is_none()
+        let of_these = BY_ITSELF.iter().any(|name| fault.name.starts_with(name));
+        let seeded = || search(pair, Plan::of_cases(1, CASES), &mut |_, _| {});
+        of_these && seeded().difference.is_none() && search_fixed(pair).difference.is_none()
     });
     let missed: Vec<&str> = missed.map(|fault| fault.name).collect();
     assert_eq!(missed, NOT_BY_ITSELF);
@@ -175,36 +191,40 @@ fn three() -> Site {
     site
 }
 
+/// These events there, from those who may send them.
+fn rightful(events: &[[u8; 4]]) -> Case {
+    Case::Session {
+        site: three(),
+        commands: events.iter().map(|e| Command::rightful(*e)).collect(),
+    }
+}
+
 #[test]
 fn differences_are_made_small() {
     let mut events = vec![[0; 4]; 40];
     events.extend([[1, 1, 0, 0], [3, 0, 0, 1], [7, 1, 0, 0], [9, 2, 0, 0]]);
     events.extend([[0; 4]; 300]);
-    let site = three();
-    let small = smallest("release_end_only_calling", Case::Session { site, events });
-    let Case::Session { site, events } = small else {
+    let small = smallest("release_end_only_calling", rightful(&events));
+    let Case::Session { site, commands } = small else {
         panic!("another case");
     };
-    assert_eq!((site.n, events.len()), (1, 272));
+    assert_eq!((site.n, commands.len()), (1, 272));
 }
 
 /// A preview in a list is the last event of the list; one by itself keeps what it needs.
 #[test]
 fn previews_are_made_small() {
     let events = vec![[0; 4], [3, 0, 0, 1], [9, 2, 0, 0], [1, 1, 0, 0], [0; 4]];
-    let site = three();
-    let small = smallest("preview_before_event", Case::Session { site, events });
-    let Case::Session { site, events } = small else {
+    let small = smallest("preview_before_event", rightful(&events));
+    let Case::Session { site, commands } = small else {
         panic!("another case");
     };
-    assert_eq!((site.n, events.len()), (1, 1));
+    assert_eq!((site.n, commands.len()), (1, 1));
 
-    let (plant, event) = (Plant::fresh(&three()), [1, 1, 0, 0]);
-    let frame = vec![0xa5; 3 * 16 + 256];
     let case = Case::Preview {
-        plant,
-        event,
-        frame,
+        plant: Plant::fresh(&three()),
+        command: Command::rightful([1, 1, 0, 0]),
+        frame: vec![0xa5; 3 * 16 + 256],
     };
     let small = smallest("preview_length_as_a_byte", case);
     let Case::Preview { plant, frame, .. } = small else {

@@ -2,53 +2,37 @@
 
 use super::crossing::{count_down, count_out, is_held, run_timer, settle};
 use super::range::in_range;
-use super::types::{boom, number, Crossing, Entry, Plant};
+use super::rights::Source;
+use super::types::{boom, code, number, Crossing, Entry, Plant, Site};
 
 const RELEASE: u16 = 270;
 const FULL: u16 = 255;
 
-/// The event codes.
-pub mod code {
-    pub const TICK: u8 = 0;
-    pub const STRIKE_IN: u8 = 1;
-    pub const PASSAGE: u8 = 2;
-    pub const KIOSK_HOLD: u8 = 3;
-    pub const OPERATOR_HOLD: u8 = 4;
-    pub const ROUTE: u8 = 5;
-    pub const APPROACH: u8 = 6;
-    pub const TIME_RELEASE: u8 = 7;
-    pub const BOOM_REPORT: u8 = 8;
-    pub const LAMP_REPORT: u8 = 9;
-}
-
-/// Takes or refuses one event; gives the number and the trains written off.
-pub fn event(plant: &mut Plant, event: [u8; 4]) -> (u8, u32) {
+/// Takes or refuses one event of a sender; gives the number and the trains written off.
+pub fn event(plant: &mut Plant, sender: u8, event: [u8; 4]) -> (u8, u32) {
     if !in_range(plant) {
         return (number::SPOILT_PLANT, 0);
     }
-    match apply(plant, event) {
+    let Some(source) = Source::sender(sender) else {
+        return (number::UNKNOWN_SENDER, 0);
+    };
+    match apply(plant, source, event) {
         Ok(written_off) => (number::TAKEN, written_off),
         Err(refusal) => (refusal, 0),
     }
 }
 
-/// One event on a plant known to be in range.
-#[inline]
-pub fn apply(plant: &mut Plant, event: [u8; 4]) -> Result<u32, u8> {
+/// One event on a plant known to be in range. Inlined into the sheet run, it needs no look at the
+/// rights there.
+#[inline(always)]
+pub fn apply(plant: &mut Plant, source: Source, event: [u8; 4]) -> Result<u32, u8> {
+    known(&plant.site, event)?;
     let [code, crossing, place, value] = event;
+    if !source.may_send(code, value) {
+        return Err(number::NO_RIGHT);
+    }
     if code == code::TICK {
-        return match (crossing, place, value) {
-            (0, 0, 0) => Ok(tick(plant)),
-            (0, 0, _) => Err(number::UNKNOWN_VALUE),
-            (0, _, _) => Err(number::UNKNOWN_PLACE),
-            _ => Err(number::UNKNOWN_CROSSING),
-        };
-    }
-    if code > code::LAMP_REPORT {
-        return Err(number::UNKNOWN_CODE);
-    }
-    if crossing >= plant.site.n {
-        return Err(number::UNKNOWN_CROSSING);
+        return Ok(tick(plant));
     }
     let entry = &plant.site.entries[usize::from(crossing)];
     let record = &mut plant.crossings[usize::from(crossing)];
@@ -56,6 +40,28 @@ pub fn apply(plant: &mut Plant, event: [u8; 4]) -> Result<u32, u8> {
     settle(record, entry);
     count_out(record, false);
     Ok(written_off)
+}
+
+/// Whether the event table has such an event for this site; a tick is the whole plant's.
+#[inline]
+fn known(site: &Site, event: [u8; 4]) -> Result<(), u8> {
+    let [code, crossing, place, value] = event;
+    if code > code::LAMP_REPORT {
+        return Err(number::UNKNOWN_CODE);
+    }
+    let crossings = if code == code::TICK { 1 } else { site.n };
+    if crossing >= crossings {
+        return Err(number::UNKNOWN_CROSSING);
+    }
+    let entry = &site.entries[usize::from(crossing)];
+    let (places, values) = limits(entry, code);
+    if place >= places {
+        return Err(number::UNKNOWN_PLACE);
+    }
+    if value >= values {
+        return Err(number::UNKNOWN_VALUE);
+    }
+    Ok(())
 }
 
 fn tick(plant: &mut Plant) -> u32 {
@@ -84,17 +90,10 @@ fn limits(entry: &Entry, code: u8) -> (u8, u8) {
     }
 }
 
-/// Everything an event other than a tick does before the crossing settles; gives the trains
+/// Everything a known event other than a tick does before the crossing settles; gives the trains
 /// written off.
 #[inline]
 fn take(record: &mut Crossing, entry: &Entry, code: u8, place: u8, value: u8) -> Result<u32, u8> {
-    let (places, values) = limits(entry, code);
-    if place >= places {
-        return Err(number::UNKNOWN_PLACE);
-    }
-    if value >= values {
-        return Err(number::UNKNOWN_VALUE);
-    }
     let place = usize::from(place);
     let mut written_off = 0;
     match code {

@@ -2,6 +2,7 @@
 
 use super::crossing::{booms_down, is_normal, is_secured};
 use super::range::in_range;
+use super::rights::Source;
 use super::types::{number, phase, Crossing, Entry, Plant};
 
 /// Panel bytes per crossing.
@@ -19,23 +20,29 @@ pub fn panel_len(n: u8) -> usize {
     PANEL * usize::from(n)
 }
 
-/// Draws the panel into a lent output of exactly its length.
-pub fn draw(plant: &Plant, panel: &mut [u8]) -> u8 {
+/// Draws what a sender sees of the panel into a lent output of exactly the panel's length.
+pub fn draw(plant: &Plant, sender: u8, panel: &mut [u8]) -> u8 {
     if !in_range(plant) {
         return number::SPOILT_PLANT;
     }
+    let Some(source) = Source::sender(sender) else {
+        return number::UNKNOWN_SENDER;
+    };
     if panel.len() != panel_len(plant.site.n) {
         return number::WRONG_FRAME;
     }
-    paint(plant, panel);
+    paint(plant, source, panel);
     number::TAKEN
 }
 
 /// Draws a plant known to be in range into a panel of the right length.
-pub fn paint(plant: &Plant, panel: &mut [u8]) {
+pub fn paint(plant: &Plant, source: Source, panel: &mut [u8]) {
     let records = plant.crossings.iter().zip(&plant.site.entries);
     for (bytes, (record, entry)) in panel.chunks_exact_mut(PANEL).zip(records) {
-        bytes.copy_from_slice(&panel_of(record, entry, plant.beat));
+        let shown = panel_of(record, entry, plant.beat);
+        for (i, byte) in bytes.iter_mut().enumerate() {
+            *byte = if source.sees(i) { shown[i] } else { 0 };
+        }
     }
 }
 

@@ -3,6 +3,7 @@
 use super::events::apply;
 use super::panel::{paint, panel_len};
 use super::range::in_range;
+use super::rights::Source;
 use super::types::{number, Plant, Run, MAX_EVENTS};
 
 /// The codes and the triples of a sheet.
@@ -20,7 +21,7 @@ pub fn sheet_parts(sheet: &[u8]) -> Result<(&[u8], &[u8]), u8> {
     Ok(rest.split_at(m))
 }
 
-/// Applies each event of a sheet in turn and draws the panel.
+/// Applies each event of a sheet in turn, with every right, and draws the whole panel.
 pub fn run(plant: &mut Plant, sheet: &[u8], panel: &mut [u8]) -> Run {
     if !in_range(plant) {
         return Run::answer(number::SPOILT_PLANT);
@@ -34,7 +35,8 @@ pub fn run(plant: &mut Plant, sheet: &[u8], panel: &mut [u8]) -> Run {
     }
     let mut run = Run::answer(number::TAKEN);
     for (code, triple) in codes.iter().zip(triples.chunks_exact(3)) {
-        match apply(plant, [*code, triple[0], triple[1], triple[2]]) {
+        let event = [*code, triple[0], triple[1], triple[2]];
+        match apply(plant, Source::Sheet, event) {
             Ok(written_off) => {
                 run.taken += 1;
                 run.written_off += written_off;
@@ -42,6 +44,6 @@ pub fn run(plant: &mut Plant, sheet: &[u8], panel: &mut [u8]) -> Run {
             Err(_) => run.refused += 1,
         }
     }
-    paint(plant, panel);
+    paint(plant, Source::Sheet, panel);
     run
 }

@@ -22,6 +22,33 @@ pub mod number {
     pub const PLAIN_TRACK: u8 = 13;
     pub const WRONG_FRAME: u8 = 14;
     pub const SPOILT_PLANT: u8 = 15;
+    /// Document 02, T-04, as the next.
+    pub const UNKNOWN_SENDER: u8 = 16;
+    pub const NO_RIGHT: u8 = 17;
+}
+
+/// The event codes.
+pub mod code {
+    pub const TICK: u8 = 0;
+    pub const STRIKE_IN: u8 = 1;
+    pub const PASSAGE: u8 = 2;
+    pub const KIOSK_HOLD: u8 = 3;
+    pub const OPERATOR_HOLD: u8 = 4;
+    pub const ROUTE: u8 = 5;
+    pub const APPROACH: u8 = 6;
+    pub const TIME_RELEASE: u8 = 7;
+    pub const BOOM_REPORT: u8 = 8;
+    pub const LAMP_REPORT: u8 = 9;
+}
+
+/// The senders of a command (document 02, T-04).
+pub mod sender {
+    pub const DETECTION: u8 = 0;
+    pub const KIOSK: u8 = 1;
+    /// The local operator.
+    pub const OPERATOR: u8 = 2;
+    /// The remote centre.
+    pub const CENTRE: u8 = 3;
 }
 
 /// The phases of a crossing.

@@ -2,9 +2,9 @@
 
 mod common;
 
-use common::{at, entry, four_kinds, fresh, panel, refuse, sheet, take, ticks, TICK};
+use common::{at, entry, four_kinds, fresh, panel, refuse, send, sheet, take, ticks, TICK};
 use engine::boom::{DOWN, LOST, MOVING, UP};
-use engine::{event, in_range, phase, Plant};
+use engine::{in_range, phase, Plant};
 
 /// The kinds with booms, and how many.
 const KINDS: [(u8, u8); 3] = [(2, 2), (3, 2), (4, 4)];
@@ -83,7 +83,7 @@ fn a_report_of_3_is_taken_and_kept_in_every_phase() {
         for plant in phases(kind).map(|phase| in_phase(kind, phase)) {
             for b in 0..booms {
                 let (mut after, mut expected) = (plant, plant);
-                assert_eq!(event(&mut after, [8, 0, b, 3]), (0, 0));
+                assert_eq!(send(&mut after, [8, 0, b, 3]), (0, 0));
                 expected.crossings[0].booms[usize::from(b)] = 3;
                 assert_eq!(after, expected);
                 (4..=255).for_each(|value| refuse(&plant, [8, 0, b, value], 8));
@@ -256,7 +256,7 @@ fn a_release_runs_to_its_end() {
         take(&mut plant, &[RELEASE, [8, 0, b, LOST]]);
         assert_eq!(ticks(&mut plant, 269), 0);
         take(&mut plant, &[[8, 0, b, LOST]]);
-        assert_eq!(event(&mut plant, TICK), (0, 1));
+        assert_eq!(send(&mut plant, TICK), (0, 1));
         assert_eq!(ticks(&mut plant, 300), 0);
         assert_eq!(plant.crossings[0].phase, phase::RAISING);
         take(&mut plant, &[[8, 0, b, UP]]);

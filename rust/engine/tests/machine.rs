@@ -2,8 +2,8 @@
 
 mod common;
 
-use common::{at, entry, four_kinds, fresh, panel, take, ticks, TICK};
-use engine::{boom, event, phase};
+use common::{at, entry, four_kinds, fresh, panel, send, take, ticks, TICK};
+use engine::{boom, phase};
 
 #[test]
 fn strike_in_by_track_and_route() {
@@ -100,7 +100,7 @@ fn release_and_warning_end_on_one_tick() {
         take(&mut plant, &[[1, crossing as u8, 0, 0]]);
         plant.crossings[crossing].timer = 1;
         plant.crossings[crossing].countdown = 1;
-        assert_eq!(event(&mut plant, TICK), (0, 1));
+        assert_eq!(send(&mut plant, TICK), (0, 1));
         assert_eq!(at(&plant, crossing), expected);
     }
 }
@@ -169,7 +169,7 @@ fn release_clears_all_tracks_of_all_due_crossings() {
     take(&mut plant, &[[1, 1, 0, 0], [1, 1, 1, 0]]);
     take(&mut plant, &[[7, 0, 0, 0], [7, 1, 0, 0]]);
     assert_eq!(ticks(&mut plant, 269), 0);
-    assert_eq!(event(&mut plant, TICK), (0, 5));
+    assert_eq!(send(&mut plant, TICK), (0, 5));
     for c in &plant.crossings[..2] {
         assert_eq!((c.calling, c.waiting), ([0; 4], [0; 4]));
     }

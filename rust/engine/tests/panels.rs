@@ -3,7 +3,7 @@
 mod common;
 
 use common::{entry, four_kinds, fresh, panel, program_case, take, ticks, TICK};
-use engine::{boom, draw, Plant};
+use engine::{boom, draw, sender, Plant};
 
 /// All four kinds with a train, all ordered down, every boom down.
 fn closed() -> Plant {
@@ -145,7 +145,7 @@ fn wrong_frame_leaves_the_bytes() {
     let plant = four_kinds();
     for len in (0..130).filter(|len| *len != 64) {
         let mut bytes = vec![0x77; len];
-        assert_eq!(draw(&plant, &mut bytes), 14);
+        assert_eq!(draw(&plant, sender::DETECTION, &mut bytes), 14);
         assert_eq!(bytes, vec![0x77; len]);
     }
 }

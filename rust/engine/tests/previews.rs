@@ -2,8 +2,8 @@
 
 mod common;
 
-use common::{entry, four_kinds, fresh, panel, program_case, take, ticks, TICK};
-use engine::{boom, draw, event, panel_len, preview, Plant};
+use common::{entry, four_kinds, fresh, panel, program_case, rightful, take, ticks, view, TICK};
+use engine::{boom, draw, event, panel_len, preview, sender, Plant};
 
 const STRIKE_IN: [u8; 4] = [1, 0, 0, 0];
 const HOLD_OFF: [u8; 4] = [4, 0, 0, 0];
@@ -17,7 +17,7 @@ fn old(len: usize) -> Vec<u8> {
 /// A preview into old bytes of the right length: its answer, and the bytes after it.
 fn look(plant: &Plant, e: [u8; 4]) -> ((u8, u32), Vec<u8>) {
     let mut bytes = old(panel_len(plant.site.n));
-    let answer = preview(plant, e, &mut bytes);
+    let answer = preview(plant, rightful(e), e, &mut bytes);
     (answer, bytes)
 }
 
@@ -25,11 +25,11 @@ fn look(plant: &Plant, e: [u8; 4]) -> ((u8, u32), Vec<u8>) {
 fn as_pressed(plant: &Plant, e: [u8; 4]) -> (u8, u32) {
     let (answer, bytes) = look(plant, e);
     assert_eq!(look(plant, e), (answer, bytes.clone()), "again {e:?}");
-    let mut after = *plant;
-    assert_eq!(event(&mut after, e), answer, "{e:?}");
+    let (mut after, sender) = (*plant, rightful(e));
+    assert_eq!(event(&mut after, sender, e), answer, "{e:?}");
     let mut expected = old(bytes.len());
     if answer.0 == 0 {
-        assert_eq!(draw(&after, &mut expected), 0);
+        assert_eq!(draw(&after, sender, &mut expected), 0);
     }
     assert_eq!(bytes, expected, "{e:?}");
     answer
@@ -38,7 +38,8 @@ fn as_pressed(plant: &Plant, e: [u8; 4]) -> (u8, u32) {
 /// Refused with this number over a frame of this length: no count, no byte changed.
 fn refused(plant: &Plant, e: [u8; 4], len: usize, number: u8) {
     let mut bytes = old(len);
-    assert_eq!(preview(plant, e, &mut bytes), (number, 0), "{e:?} {len}");
+    let answer = preview(plant, rightful(e), e, &mut bytes);
+    assert_eq!(answer, (number, 0), "{e:?} {len}");
     assert_eq!(bytes, old(len), "{e:?} {len}");
 }
 
@@ -150,7 +151,7 @@ fn looking_before_every_event() {
         let answer = as_pressed(&plant, e);
         refused += u32::from(answer.0 != 0);
         written_off += answer.1;
-        event(&mut plant, e);
+        event(&mut plant, rightful(e), e);
     }
     assert_eq!((refused, written_off), (3, 1));
 }
@@ -275,7 +276,7 @@ fn the_operator_looks_at_hold_off() {
     refused(&plant, HOLD_OFF, 16, 11);
     take(&mut plant, &[[2, 0, 0, 0]]);
     assert_eq!(panel(&plant, 0)[10..12], [3, 2]);
-    let shown = [2, 15, 0, 1, 0, 0, 1, 1, 0, 0, 4, 0, 0, 0, 0, 0];
+    let shown = [2, 0, 0, 0, 0, 0, 1, 1, 0, 0, 4, 0, 0, 0, 0, 0];
     assert_eq!(look(&plant, HOLD_OFF), ((0, 0), shown.to_vec()));
     assert_eq!(panel(&plant, 0)[10..12], [3, 2]);
     assert_eq!(as_pressed(&plant, HOLD_OFF), (0, 0));
@@ -289,7 +290,8 @@ fn the_operator_looks_at_a_release() {
     take(&mut plant, &[[4, 0, 0, 1]]);
     refused(&plant, RELEASE, 16, 12);
     let plant = program_case();
-    assert_eq!(look(&plant, RELEASE), ((0, 0), panel(&plant, 0).to_vec()));
+    let shown = view(&plant, sender::OPERATOR, 0);
+    assert_eq!(look(&plant, RELEASE), ((0, 0), shown.to_vec()));
     assert_eq!(plant.crossings[0].countdown, 0);
 
     let mut plant = fresh(&[entry(3, 1, 0, 2, 0)]);

@@ -133,7 +133,7 @@ fn spoilt_plant_comes_first() {
     refuse(&plant, TICK, 15);
     refuse(&plant, [255; 4], 15);
     let mut panel = [7; 3];
-    assert_eq!(engine::draw(&plant, &mut panel), 15);
+    assert_eq!(engine::draw(&plant, 0, &mut panel), 15);
     assert_eq!(engine::run(&mut plant, &[], &mut panel).number, 15);
     assert_eq!(panel, [7; 3]);
 }

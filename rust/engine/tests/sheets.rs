@@ -2,8 +2,8 @@
 
 mod common;
 
-use common::{book, entry, four_kinds, fresh, panel, sheet, site, TICK};
-use engine::{event, program, run, Run, PANEL};
+use common::{book, entry, four_kinds, fresh, panel, send, sheet, site, TICK};
+use engine::{program, run, Run, PANEL};
 
 const SITE: [u8; 8] = [1, 3, 1, 0, 2, 0, 0, 0];
 #[rustfmt::skip]
@@ -95,7 +95,7 @@ fn a_run_is_its_events_in_turn() {
     let mut stepped = four_kinds();
     let (mut taken, mut refused, mut written_off) = (0, 0, 0);
     for e in &events {
-        let (number, off) = event(&mut stepped, *e);
+        let (number, off) = send(&mut stepped, *e);
         taken += u32::from(number == 0);
         refused += u32::from(number != 0);
         written_off += off;

@@ -9,10 +9,11 @@ fn spoilt(plant: &Plant, change: impl FnOnce(&mut Plant)) {
     let mut changed = *plant;
     change(&mut changed);
     common::refuse(&changed, [9, 0, 0, 1], 15);
-    assert_eq!(engine::draw(&changed, &mut [0; 48]), 15);
+    assert_eq!(engine::draw(&changed, 0, &mut [0; 48]), 15);
     for len in [0, 48, engine::panel_len(changed.site.n)] {
         let mut bytes = vec![7; len];
-        assert_eq!(engine::preview(&changed, [9, 0, 0, 1], &mut bytes), (15, 0));
+        let answer = engine::preview(&changed, 0, [9, 0, 0, 1], &mut bytes);
+        assert_eq!(answer, (15, 0));
         assert_eq!(bytes, vec![7; len]);
     }
     let after = &mut changed.clone();
@@ -24,7 +25,7 @@ fn sound(plant: &Plant, change: impl FnOnce(&mut Plant)) {
     let mut changed = *plant;
     change(&mut changed);
     assert!(in_range(&changed));
-    assert_eq!(engine::event(&mut changed, [9, 0, 0, 1]).0, 0);
+    assert_eq!(engine::event(&mut changed, 0, [9, 0, 0, 1]).0, 0);
 }
 
 #[test]

@@ -2,8 +2,8 @@
 
 mod common;
 
-use common::{entry, four_kinds, fresh, panel, refuse, take, ticks, TICK};
-use engine::{boom, event, phase, Plant};
+use common::{entry, four_kinds, fresh, panel, refuse, send, take, ticks, TICK};
+use engine::{boom, phase, Plant};
 
 const RELEASE: [u8; 4] = [7, 0, 0, 0];
 
@@ -12,7 +12,7 @@ fn swept(track: u8) -> Plant {
     let mut plant = four_kinds();
     for c in 0..4 {
         assert_eq!(take(&mut plant, &[[1, c, track, 0]; 255]), 0);
-        assert_eq!(event(&mut plant, [1, c, track, 0]), (0, 1));
+        assert_eq!(send(&mut plant, [1, c, track, 0]), (0, 1));
     }
     plant
 }
@@ -26,13 +26,13 @@ fn calling_and_waiting_fill_a_track_together() {
     assert_eq!(take(&mut plant, &[[1, 0, 0, 0]; 55]), 0);
     assert_eq!(plant.crossings[0].unsure, [0; 4]);
     for _ in 0..3 {
-        assert_eq!(event(&mut plant, [1, 0, 0, 0]), (0, 1));
+        assert_eq!(send(&mut plant, [1, 0, 0, 0]), (0, 1));
         assert_eq!(plant.crossings[0].calling, [200, 0, 0, 0]);
         assert_eq!(plant.crossings[0].waiting, [55, 0, 0, 0]);
         assert_eq!(plant.crossings[0].unsure, [1, 0, 0, 0]);
     }
     assert_eq!(take(&mut plant, &[[1, 0, 1, 0], [5, 0, 0, 1]]), 0);
-    assert_eq!(event(&mut plant, [1, 0, 0, 0]), (0, 1));
+    assert_eq!(send(&mut plant, [1, 0, 0, 0]), (0, 1));
     assert_eq!(plant.crossings[0].calling, [255, 0, 0, 0]);
     assert_eq!(plant.crossings[0].waiting, [0, 1, 0, 0]);
     assert_eq!(plant.crossings[0].unsure, [1, 0, 0, 0]);
@@ -43,7 +43,7 @@ fn a_train_gone_makes_room_but_the_flag_stays() {
     let mut plant = swept(0);
     for c in 0..4 {
         assert_eq!(take(&mut plant, &[[2, c, 0, 0], [1, c, 0, 0]]), 0);
-        assert_eq!(event(&mut plant, [1, c, 0, 0]), (0, 1));
+        assert_eq!(send(&mut plant, [1, c, 0, 0]), (0, 1));
         assert_eq!(plant.crossings[usize::from(c)].unsure, [1, 0, 0, 0]);
     }
 }
@@ -131,7 +131,7 @@ fn a_swept_strike_in_cancels_a_release() {
         let mut plant = swept(track);
         take(&mut plant, &[RELEASE]);
         ticks(&mut plant, 269);
-        assert_eq!(event(&mut plant, [1, 0, track, 0]), (0, 1));
+        assert_eq!(send(&mut plant, [1, 0, track, 0]), (0, 1));
         assert_eq!(plant.crossings[0].countdown, 0);
         assert_eq!(ticks(&mut plant, 300), 0);
         assert_eq!(plant.crossings[0].unsure[usize::from(track)], 1);
@@ -157,7 +157,7 @@ fn a_release_clears_the_flags_of_its_crossing() {
     }
     take(&mut plant, &[[7, 1, 0, 0], [7, 3, 0, 0]]);
     assert_eq!(ticks(&mut plant, 269), 0);
-    assert_eq!(event(&mut plant, TICK), (0, 2 * 2 * 255));
+    assert_eq!(send(&mut plant, TICK), (0, 2 * 2 * 255));
     let unsure = [0, 1, 2, 3].map(|c: usize| plant.crossings[c].unsure);
     assert_eq!(unsure, [[1, 1, 0, 0], [0; 4], [1, 1, 0, 0], [0; 4]]);
     ticks(&mut plant, 1);
@@ -172,7 +172,7 @@ fn the_flag_writes_nothing_off() {
     take(&mut plant, &[[7, 2, 0, 0]]);
     assert_eq!(ticks(&mut plant, 269), 0);
     assert_eq!(plant.crossings[2].phase, phase::ALL_DOWN);
-    assert_eq!(event(&mut plant, TICK), (0, 0));
+    assert_eq!(send(&mut plant, TICK), (0, 0));
     assert_eq!(plant.crossings[2].unsure, [0; 4]);
     assert_eq!(plant.crossings[2].phase, phase::RAISING);
 }

@@ -9,14 +9,14 @@ use engine::{Plant, Run, Site};
 /// A number and the trains written off.
 type Answer = (u8, u32);
 
-/// The six calls of one engine.
+/// The six calls of one engine; a `u8` is the sender.
 #[derive(Clone, Copy)]
 pub struct Calls {
     pub read_book: fn(&[u8]) -> (u8, Plant),
     pub write_book: fn(&Site, &mut [u8]) -> u8,
-    pub event: fn(&mut Plant, [u8; 4]) -> Answer,
-    pub draw: fn(&Plant, &mut [u8]) -> u8,
-    pub preview: fn(&Plant, [u8; 4], &mut [u8]) -> Answer,
+    pub event: fn(&mut Plant, u8, [u8; 4]) -> Answer,
+    pub draw: fn(&Plant, u8, &mut [u8]) -> u8,
+    pub preview: fn(&Plant, u8, [u8; 4], &mut [u8]) -> Answer,
     pub run: fn(&mut Plant, &[u8], &mut [u8]) -> Run,
 }
 

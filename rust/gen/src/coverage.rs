@@ -4,8 +4,10 @@ use crate::booms::BoomBytes;
 use crate::flags::FlagBytes;
 use crate::lost_met::LostCounts;
 use crate::previewed::PreviewCounts;
+use crate::senders::{sees_all, Command};
+use crate::sent::SenderCounts;
 use crate::unsure::UnsureCounts;
-use engine::{boom, code, number, phase, Crossing, Plant, PANEL};
+use engine::{boom, code, event, number, phase, Crossing, Plant, PANEL};
 
 /// The six calls.
 #[derive(Clone, Copy, PartialEq, Debug)]
@@ -18,11 +20,25 @@ pub enum Call {
     Preview,
 }
 
+/// Room for every number of an answer, and some more.
+pub(crate) const NUMBERS: usize = 32;
+
+/// The place of a number.
+pub(crate) fn place(number: u8) -> usize {
+    usize::from(number) % NUMBERS
+}
+
+/// The answer that the event itself would get. A plant which only its beat spoils gets one too.
+pub(crate) fn own_answer(plant: &Plant, command: Command) -> (u8, u32) {
+    let beat = plant.beat.min(3);
+    event(&mut Plant { beat, ..*plant }, command.sender, command.event)
+}
+
 /// What was reached, and how often.
 #[derive(Clone, Default)]
 pub struct Coverage {
-    pub(crate) calls: [[u64; 16]; 6],
-    pub(crate) codes: [[u64; 16]; 11],
+    pub(crate) calls: [[u64; NUMBERS]; 6],
+    pub(crate) codes: [[u64; NUMBERS]; 11],
     pub(crate) phases: [[u64; 5]; 5],
     pub(crate) moves: [[u64; 5]; 5],
     pub(crate) bytes: [ByteCounts; PANEL],
@@ -34,6 +50,7 @@ pub struct Coverage {
     pub(crate) unsure: UnsureCounts,
     pub(crate) lost: LostCounts,
     pub(crate) previews: PreviewCounts,
+    pub(crate) senders: SenderCounts,
 }
 
 /// How often a byte had each value.
@@ -89,7 +106,7 @@ impl Coverage {
 
     /// A call answered with `number`.
     pub fn call(&mut self, call: Call, number: u8) {
-        self.calls[call as usize][usize::from(number & 15)] += 1;
+        self.calls[call as usize][place(number)] += 1;
     }
 
     /// A call was handed this plant.
@@ -103,12 +120,13 @@ impl Coverage {
         self.calls[Call::Event as usize].iter().sum()
     }
 
-    /// An event answered with `number`, and the plants before and after it.
-    pub fn event(&mut self, before: &Plant, e: [u8; 4], answer: (u8, u32), after: &Plant) {
-        let (number, written_off) = answer;
+    /// An event answered so, and the plants before and after it.
+    pub fn event(&mut self, before: &Plant, command: Command, answer: (u8, u32), after: &Plant) {
+        let (e, (number, written_off)) = (command.event, answer);
         self.call(Call::Event, number);
+        self.senders.event(before, command, number);
         let code = usize::from(e[0].min(code::LAMP_REPORT + 1));
-        self.codes[code][usize::from(number & 15)] += 1;
+        self.codes[code][place(number)] += 1;
         if (e[0], number) == (code::BOOM_REPORT, number::UNKNOWN_VALUE) {
             self.lost
                 .refused(&after.site.entries[usize::from(e[1])], e[3]);
@@ -133,7 +151,16 @@ impl Coverage {
         }
     }
 
-    /// A panel drawn.
+    /// A drawing for a sender answered with `number`, and the lent panel after it.
+    pub fn draw(&mut self, plant: &Plant, sender: u8, number: u8, panel: &[u8]) {
+        self.call(Call::Draw, number);
+        self.senders.draw(plant, sender, number, panel);
+        if number == number::TAKEN && sees_all(sender) {
+            self.panel(plant, panel);
+        }
+    }
+
+    /// A whole panel drawn.
     pub fn panel(&mut self, plant: &Plant, panel: &[u8]) {
         self.panels += 1;
         let records = plant.crossings.iter().zip(&plant.site.entries);
@@ -149,15 +176,21 @@ impl Coverage {
     }
 
     /// A preview answered so, and the lent panel after it.
-    pub fn preview(&mut self, plant: &Plant, e: [u8; 4], answer: (u8, u32), panel: &[u8]) {
+    pub fn preview(&mut self, plant: &Plant, command: Command, answer: (u8, u32), panel: &[u8]) {
         self.call(Call::Preview, answer.0);
-        self.previews.preview(plant, e, answer, panel);
+        self.previews.preview(plant, command, answer, panel);
+        self.senders.preview(plant, command, answer.0, panel);
     }
 
     /// A preview within a list of events answered with `number`.
     pub fn preview_in_list(&mut self, number: u8) {
         self.call(Call::Preview, number);
         self.previews.in_list(number);
+    }
+
+    /// An event of a list answered with `number`.
+    pub fn event_in_list(&mut self, sender: u8, number: u8) {
+        self.senders.in_list(sender, number);
     }
 
     /// Adds what another run of cases reached.
@@ -177,6 +210,7 @@ impl Coverage {
         self.unsure.add(&other.unsure);
         self.lost.add(&other.lost);
         self.previews.add(&other.previews);
+        self.senders.add(&other.senders);
         self.panels += other.panels;
     }
 }

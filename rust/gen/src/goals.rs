@@ -1,6 +1,7 @@
 //! What a set of inputs should reach, and the table of it.
 
 mod previews;
+mod senders;
 
 use crate::booms::BoomBytes;
 use crate::coverage::{Call, Coverage};
@@ -15,10 +16,10 @@ const CALLS: [&str; 6] = ["read book", "write book", "event", "draw", "run", "pr
 const CALL_NUMBERS: [&[u8]; 6] = [
     &[0, 1, 2, 3],
     &[0, 2, 3, 14],
-    &[0, 5, 6, 7, 8, 10, 11, 12, 13, 15],
-    &[0, 14, 15],
+    &[0, 5, 6, 7, 8, 10, 11, 12, 13, 15, 16, 17],
+    &[0, 14, 15, 16],
     &[0, 2, 4, 14, 15],
-    &[0, 5, 6, 7, 8, 10, 11, 12, 13, 14, 15],
+    &[0, 5, 6, 7, 8, 10, 11, 12, 13, 14, 15, 16, 17],
 ];
 const SIGNALS: [&str; 4] = ["road", "boom lamps", "train signal", "distant"];
 const RHYTHMS: [&str; 3] = ["slow", "fast", "steady"];
@@ -46,7 +47,7 @@ const WITH_PLANT: [Call; 4] = [Call::Event, Call::Draw, Call::Run, Call::Preview
 const USES: [&str; 2] = ["unused", "used"];
 const KINDS: [&str; 5] = ["unused", "kind 1", "kind 2", "kind 3", "kind 4"];
 
-/// The refusals an event of this code can meet, beside 6, 7 and 8; 10 stands for the rest.
+/// The refusals an event of this code can meet, beside 6, 7, 8 and 17; 10 stands for the rest.
 fn own_refusals(code: usize) -> &'static [u8] {
     match code as u8 {
         code::PASSAGE => &[number::GHOST_PASSAGE],
@@ -59,12 +60,12 @@ fn own_refusals(code: usize) -> &'static [u8] {
 
 /// The numbers an event of this code can get.
 fn code_numbers(code: usize) -> Vec<u8> {
-    if code == 10 {
-        return vec![number::UNKNOWN_CODE, number::SPOILT_PLANT];
-    }
-    let mut numbers = vec![0, 6, 7, 8];
+    let mut numbers = match code {
+        10 => vec![number::UNKNOWN_CODE],
+        _ => vec![0, 6, 7, 8, number::NO_RIGHT],
+    };
     numbers.extend(own_refusals(code));
-    numbers.push(number::SPOILT_PLANT);
+    numbers.extend([number::SPOILT_PLANT, number::UNKNOWN_SENDER]);
     numbers
 }
 
@@ -131,6 +132,7 @@ impl Coverage {
         goals.extend(self.unsure_goals());
         goals.extend(self.lost_goals());
         goals.extend(self.preview_goals());
+        goals.extend(self.sender_goals());
         goals.extend(self.rhythm_goals());
         goals.extend(self.bit_goals());
         goals.extend(self.byte_goals());
@@ -140,8 +142,8 @@ impl Coverage {
     fn number_goals(&self) -> Vec<Goal> {
         let mut goals = Vec::new();
         let mut goal = |group, name, count| goals.push(Goal::once(group, name, count));
-        for n in (0..16).filter(|n| *n != usize::from(number::FULL_TRACK)) {
-            let count = self.calls.iter().map(|c| c[n]).sum();
+        for n in (0..=number::NO_RIGHT).filter(|n| *n != number::FULL_TRACK) {
+            let count = self.calls.iter().map(|c| c[usize::from(n)]).sum();
             goal("number", format!("{n}"), count);
         }
         for (c, numbers) in CALL_NUMBERS.iter().enumerate() {

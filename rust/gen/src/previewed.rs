@@ -1,8 +1,9 @@
 //! Counters of what previews met (document 02, T-03).
 
-use crate::coverage::{sums, ByteCounts};
+use crate::coverage::{own_answer, place, sums, ByteCounts, NUMBERS};
+use crate::senders::Command;
 use engine::crossing::settle;
-use engine::{code, draw, event, number, panel_len, Plant, PANEL};
+use engine::{code, draw, number, panel_len, Plant, PANEL};
 
 /// How many bytes were lent, right ones first.
 pub(crate) const LENT: [&str; 8] = ["16n", "0", "1", "16n-1", "16n+1", "16n+16", "more", "fewer"];
@@ -21,58 +22,59 @@ fn lent(len: usize, n: u8) -> usize {
     }
 }
 
-/// The answer that the event itself would get. A plant which only its beat spoils gets one too.
-fn own_answer(plant: &Plant, e: [u8; 4]) -> (u8, u32) {
-    let beat = plant.beat.min(3);
-    event(&mut Plant { beat, ..*plant }, e)
-}
-
 /// How often.
 #[derive(Clone, Default)]
 pub(crate) struct PreviewCounts {
     /// The codes handed over.
     pub(crate) bytes: ByteCounts,
     /// By code, 10 for the rest, and number.
-    pub(crate) codes: [[u64; 16]; 11],
+    pub(crate) codes: [[u64; NUMBERS]; 11],
     /// By the bytes lent and the number that the event itself would get.
-    pub(crate) lent: [[u64; 16]; LENT.len()],
+    pub(crate) lent: [[u64; NUMBERS]; LENT.len()],
     /// The plant's beat spoilt: by the number that the event itself would get.
-    pub(crate) spoilt: [u64; 16],
-    /// Taken, and the panel not that of the plant as it stands: by code.
+    pub(crate) spoilt: [u64; NUMBERS],
+    /// Taken, and the panel not what its sender sees of the plant as it stands: by code.
     pub(crate) moved: [u64; 10],
     /// Taken: trains written off by a tick and by a strike-in, 0, 1 and more.
     pub(crate) written_off: [[u64; 3]; 2],
     /// Refused with this number, a tick and a strike-in that would else write off.
-    pub(crate) withheld: [[u64; 16]; 2],
+    pub(crate) withheld: [[u64; NUMBERS]; 2],
     /// By n: taken, and refused for the frame.
     pub(crate) sizes: [[u64; 9]; 2],
     /// Taken beside a crossing that would move if it settled.
     pub(crate) neighbours: u64,
     /// Within lists of events, by number.
-    pub(crate) lists: [u64; 16],
+    pub(crate) lists: [u64; NUMBERS],
 }
 
 impl PreviewCounts {
-    pub(crate) fn preview(&mut self, plant: &Plant, e: [u8; 4], answer: (u8, u32), panel: &[u8]) {
-        let number = usize::from(answer.0 & 15);
-        self.bytes.count(e[0]);
-        self.codes[usize::from(e[0].min(code::LAMP_REPORT + 1))][number] += 1;
-        let own = own_answer(plant, e).0;
+    pub(crate) fn preview(
+        &mut self,
+        plant: &Plant,
+        command: Command,
+        answer: (u8, u32),
+        panel: &[u8],
+    ) {
+        let code = command.event[0];
+        self.bytes.count(code);
+        self.codes[usize::from(code.min(code::LAMP_REPORT + 1))][place(answer.0)] += 1;
+        let own = own_answer(plant, command).0;
         let spoilt = plant.beat > 3;
         let first = if spoilt { number::SPOILT_PLANT } else { own };
-        self.lent[lent(panel.len(), plant.site.n)][usize::from(first)] += 1;
-        self.spoilt[usize::from(own)] += u64::from(spoilt);
+        self.lent[lent(panel.len(), plant.site.n)][place(first)] += 1;
+        self.spoilt[place(own)] += u64::from(spoilt);
         match answer.0 {
-            number::TAKEN if first == number::TAKEN => self.taken(plant, e, answer.1, panel),
+            number::TAKEN if first == number::TAKEN => self.taken(plant, command, answer.1, panel),
             number::TAKEN => {}
-            _ => self.refused(plant, e, answer.0),
+            _ => self.refused(plant, command.event, answer.0),
         }
     }
 
-    fn taken(&mut self, plant: &Plant, e: [u8; 4], written_off: u32, panel: &[u8]) {
+    fn taken(&mut self, plant: &Plant, command: Command, written_off: u32, panel: &[u8]) {
+        let e = command.event;
         let code = usize::from(e[0]);
         let mut before = panel.to_vec();
-        if draw(plant, &mut before) == number::TAKEN {
+        if draw(plant, command.sender, &mut before) == number::TAKEN {
             self.moved[code] += u64::from(before != panel);
         }
         if let Some(counts) = self.written_off.get_mut(code) {
@@ -95,7 +97,8 @@ impl PreviewCounts {
             _ => [code::TICK, 0, 0, 0],
         };
         if let Some(counts) = self.withheld.get_mut(usize::from(e[0])) {
-            counts[usize::from(number & 15)] += u64::from(own_answer(plant, meant).1 > 0);
+            let (_, written_off) = own_answer(plant, Command::rightful(meant));
+            counts[place(number)] += u64::from(written_off > 0);
         }
         if let (number::WRONG_FRAME, 1..=8) = (number, plant.site.n) {
             self.sizes[1][usize::from(plant.site.n)] += 1;
@@ -103,7 +106,7 @@ impl PreviewCounts {
     }
 
     pub(crate) fn in_list(&mut self, number: u8) {
-        self.lists[usize::from(number & 15)] += 1;
+        self.lists[place(number)] += 1;
     }
 
     pub(crate) fn add(&mut self, other: &PreviewCounts) {

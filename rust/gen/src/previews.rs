@@ -23,7 +23,7 @@ pub fn preview_grid() -> impl Iterator<Item = Look> {
 }
 
 /// Kinds in turn, track 0 plain, track 1 dependent, F 2 and for kind 4 G 1.
-fn fresh(n: u8) -> Plant {
+pub(crate) fn fresh(n: u8) -> Plant {
     let mut site = Site { n, ..Site::ZERO };
     for (i, entry) in (0..n).zip(&mut site.entries) {
         let kind = 1 + i % 4;
@@ -40,7 +40,7 @@ fn fresh(n: u8) -> Plant {
 
 /// Trains that call on track 0 of every crossing, for whose release one tick is left, and an
 /// occupied approach, which refuses another release.
-fn busy(n: u8, trains: u8) -> Plant {
+pub(crate) fn busy(n: u8, trains: u8) -> Plant {
     let mut plant = fresh(n);
     plant.beat = n % 4;
     for c in &mut plant.crossings[..n.into()] {
@@ -53,7 +53,7 @@ fn busy(n: u8, trains: u8) -> Plant {
 }
 
 /// Every crossing without a reason to stay closed: it moves as soon as it settles.
-fn restless(n: u8) -> Plant {
+pub(crate) fn restless(n: u8) -> Plant {
     let mut plant = fresh(n);
     for (c, entry) in plant.crossings.iter_mut().zip(&plant.site.entries) {
         c.phase = match entry.kind {
@@ -65,12 +65,12 @@ fn restless(n: u8) -> Plant {
     plant
 }
 
-fn plants(n: u8) -> [Plant; 4] {
+pub(crate) fn plants(n: u8) -> [Plant; 4] {
     [fresh(n), busy(n, 255), busy(n, 1), restless(n)]
 }
 
 /// The right length and wrong ones; one of them is the right one as a single byte counts.
-fn frames(n: u8) -> [usize; 8] {
+pub(crate) fn frames(n: u8) -> [usize; 8] {
     let right = panel_len(n);
     let [fewer, half] = [right.saturating_sub(1), right / 2];
     [right, 0, 1, fewer, right + 1, right + 16, half, right + 256]
@@ -100,7 +100,7 @@ fn codes() -> impl Iterator<Item = Look> {
 }
 
 /// Every code, and every number of a refusal, at crossing `c` of `n`.
-fn events(n: u8, c: u8) -> [[u8; 4]; 21] {
+pub(crate) fn events(n: u8, c: u8) -> [[u8; 4]; 21] {
     [
         [code::TICK, 0, 0, 0],
         [code::TICK, 1, 0, 0],
@@ -136,7 +136,7 @@ fn numbers() -> impl Iterator<Item = Look> {
     })
 }
 
-fn with_beats(plant: Plant) -> [Plant; 2] {
+pub(crate) fn with_beats(plant: Plant) -> [Plant; 2] {
     [plant, Plant { beat: 4, ..plant }]
 }
 

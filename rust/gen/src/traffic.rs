@@ -8,6 +8,7 @@ use crate::plants::report;
 use crate::rng::Rng;
 use crate::swept::{fullest, trains};
 use engine::events::apply;
+use engine::rights::Source;
 use engine::{boom, code, Plant};
 
 const TICK: [u8; 4] = [code::TICK, 0, 0, 0];
@@ -73,7 +74,7 @@ impl<'a> List<'a> {
     fn push(&mut self, e: [u8; 4]) {
         if self.has_room() {
             // Taken or refused, the list goes on.
-            let _ = apply(&mut self.plant, e);
+            let _ = apply(&mut self.plant, Source::Sheet, e);
             self.events.push(e);
         }
     }

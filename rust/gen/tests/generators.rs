@@ -1,12 +1,20 @@
 //! The generators give what their names say, and the same on every machine.
 
-use engine::{book_len, draw, event, in_range, number, panel_len, preview, read_book, run};
+use engine::{book_len, draw, event, in_range, number, panel_len, preview, read_book, run, Plant};
 use gen::{
     book, book_bytes, coherent, damaged_book, damaged_sheet, every_boom, every_flag, junk_event,
-    lost_plants, lost_reports, mixed, plant, played, preview_grid, quick_site, sheet_bytes,
-    sheet_events, site, spoilt_plant, swept_event, swept_grid, swept_plant, BookDamage, Call,
-    Coverage, Rng, SheetDamage, Spoil,
+    lost_plants, lost_reports, mixed, plant, played, preview_grid, quick_site, right_previews,
+    sheet_bytes, sheet_events, site, spoilt_plant, swept_event, swept_grid, swept_plant,
+    BookDamage, Call, Command, Coverage, Rng, SheetDamage, Spoil,
 };
+
+/// The event from a sender that may send it, counted.
+fn send(plant: &mut Plant, e: [u8; 4], seen: &mut Coverage) -> (u8, u32) {
+    let (before, command) = (*plant, Command::rightful(e));
+    let answer = event(plant, command.sender, e);
+    seen.event(&before, command, answer, plant);
+    answer
+}
 
 #[test]
 fn numbers_follow_from_the_seed() {
@@ -100,10 +108,8 @@ fn plants_are_in_range() {
 #[test]
 fn the_swept_grid_meets_everything() {
     let mut seen = Coverage::new();
-    for (before, e) in swept_grid() {
-        let mut plant = before;
-        let answer = event(&mut plant, e);
-        seen.event(&before, e, answer, &plant);
+    for (mut plant, e) in swept_grid() {
+        send(&mut plant, e, &mut seen);
     }
     let left = seen.missing().into_iter();
     let mut left = left.filter(|s| s.starts_with("swept") || s.starts_with("unsure"));
@@ -116,11 +122,9 @@ fn the_lost_grid_meets_everything() {
     let mut seen = Coverage::new();
     let ticks = lost_plants().into_iter().map(|plant| (plant, [0; 4]));
     for (before, e) in lost_reports().into_iter().chain(ticks) {
-        let mut plant = before;
-        let answer = event(&mut plant, e);
-        seen.event(&before, e, answer, &plant);
+        send(&mut before.clone(), e, &mut seen);
         let mut panel = [0; 16];
-        assert_eq!(draw(&before, &mut panel), 0);
+        assert_eq!(draw(&before, 0, &mut panel), 0);
         seen.panel(&before, &panel);
     }
     let mut left = seen.missing().into_iter();
@@ -132,10 +136,11 @@ fn the_lost_grid_meets_everything() {
 #[test]
 fn the_preview_grid_meets_everything() {
     let mut seen = Coverage::new();
-    for (plant, e, len) in preview_grid() {
+    let rightful = preview_grid().map(|look| (look, Command::rightful(look.1).sender));
+    for ((plant, event, len), sender) in rightful.chain(right_previews()) {
         let mut panel = vec![0xa5; len];
-        let answer = preview(&plant, e, &mut panel);
-        seen.preview(&plant, e, answer, &panel);
+        let answer = preview(&plant, sender, event, &mut panel);
+        seen.preview(&plant, Command { sender, event }, answer, &panel);
     }
     let left = seen.missing().into_iter();
     let mut left = left.filter(|s| s.starts_with("preview") && !s.starts_with("preview in a list"));
@@ -149,7 +154,7 @@ fn played_plants_are_those_after_their_events() {
         let fresh = engine::Plant::fresh(&quick_site(&mut Rng::new(index)));
         let mut plant = fresh;
         for e in coherent(&mut Rng::new(index), &fresh, 300) {
-            event(&mut plant, e);
+            event(&mut plant, Command::rightful(e).sender, e);
         }
         assert_eq!(played(&mut Rng::new(index), &fresh, 300), plant);
     }
@@ -163,9 +168,11 @@ fn spoilt_plants_are_refused() {
             let spoilt = spoilt_plant(&mut rng, *spoil);
             let mut after = spoilt;
             let e = junk_event(&mut rng, &spoilt);
-            assert_eq!(event(&mut after, e), (15, 0), "{spoil:?}");
-            assert_eq!(after, spoilt);
-            assert_eq!(draw(&spoilt, &mut []), 15, "{spoil:?}");
+            for sender in [0, 3, 4, 255] {
+                assert_eq!(event(&mut after, sender, e), (15, 0), "{spoil:?}");
+                assert_eq!(after, spoilt);
+                assert_eq!(draw(&spoilt, sender, &mut []), 15, "{spoil:?}");
+            }
             assert_eq!(run(&mut after, &[], &mut []).number, 15, "{spoil:?}");
         }
     }
@@ -244,11 +251,9 @@ fn traffic_reaches_its_states() {
         assert_eq!(events.len(), 4096);
         let mut panel = vec![0; panel_len(settings.n)];
         for e in events {
-            let before = plant;
-            let answer = event(&mut plant, e);
+            let answer = send(&mut plant, e, &mut seen);
             assert_ne!(answer.0, number::FULL_TRACK);
-            seen.event(&before, e, answer, &plant);
-            assert_eq!(draw(&plant, &mut panel), 0);
+            assert_eq!(draw(&plant, 0, &mut panel), 0);
             seen.panel(&plant, &panel);
         }
     }

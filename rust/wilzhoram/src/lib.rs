@@ -30,6 +30,19 @@ pub mod boom {
     pub const LOST: u8 = 3;
 }
 
+/// Senders of a command (T-04); any other is unknown, number 16. Who has no right to an event gets
+/// number 17, and bytes that a sender does not see are drawn as 0.
+pub mod sender {
+    /// May send codes 0, 1, 2, 5, 6, 8 and 9; sees every panel byte.
+    pub const DETECTION: u8 = 0;
+    /// May send code 3; sees every panel byte.
+    pub const KIOSK: u8 = 1;
+    /// The local operator: may send codes 4 and 7; sees bytes 0 and 6 to 11 of each crossing.
+    pub const OPERATOR: u8 = 2;
+    /// The remote centre: may send code 7, and 4 with value 1; sees what the operator does.
+    pub const CENTRE: u8 = 3;
+}
+
 /// What the plant holds for one crossing. Each byte of route, occupied, unsure, lamps, kiosk
 /// and operator is a flag, 0 or 1; any other is out of range, number 15.
 #[repr(C)]
@@ -115,10 +128,11 @@ mod c {
     extern "C" {
         pub fn wilzhoram_read(book: *const u8, length: usize) -> Reading;
         pub fn wilzhoram_write(site: Site, book: *mut u8, length: usize) -> u8;
-        pub fn wilzhoram_event(plant: Plant, event: Event) -> Answer;
-        pub fn wilzhoram_draw(plant: Plant, panel: *mut u8, length: usize) -> u8;
+        pub fn wilzhoram_event(plant: Plant, sender: u8, event: Event) -> Answer;
+        pub fn wilzhoram_draw(plant: Plant, sender: u8, panel: *mut u8, length: usize) -> u8;
         pub fn wilzhoram_preview(
             plant: Plant,
+            sender: u8,
             event: Event,
             panel: *mut u8,
             length: usize,
@@ -145,25 +159,27 @@ pub fn write(site: Site, book: &mut [u8]) -> u8 {
     unsafe { c::wilzhoram_write(site, book.as_mut_ptr(), book.len()) }
 }
 
-/// Applies one event.
-pub fn event(plant: Plant, event: Event) -> Answer {
-    // SAFETY: both go by value, laid out as C does.
-    unsafe { c::wilzhoram_event(plant, event) }
+/// Applies one event of a sender.
+pub fn event(plant: Plant, sender: u8, event: Event) -> Answer {
+    // SAFETY: all go by value, laid out as C does.
+    unsafe { c::wilzhoram_event(plant, sender, event) }
 }
 
-/// Draws the panel of 16n bytes.
-pub fn draw(plant: Plant, panel: &mut [u8]) -> u8 {
+/// Draws what a sender sees of the panel of 16n bytes.
+pub fn draw(plant: Plant, sender: u8, panel: &mut [u8]) -> u8 {
     // SAFETY: as in `read`.
-    unsafe { c::wilzhoram_draw(plant, panel.as_mut_ptr(), panel.len()) }
+    unsafe { c::wilzhoram_draw(plant, sender, panel.as_mut_ptr(), panel.len()) }
 }
 
-/// Draws the panel that one event would give, and applies nothing (T-03).
-pub fn preview(plant: Plant, event: Event, panel: &mut [u8]) -> Preview {
+/// Draws what a sender would see after its event, and applies nothing (T-03).
+pub fn preview(plant: Plant, sender: u8, event: Event, panel: &mut [u8]) -> Preview {
+    let (out, length) = (panel.as_mut_ptr(), panel.len());
     // SAFETY: as in `read`.
-    unsafe { c::wilzhoram_preview(plant, event, panel.as_mut_ptr(), panel.len()) }
+    unsafe { c::wilzhoram_preview(plant, sender, event, out, length) }
 }
 
-/// Applies each event of a sheet in turn and draws the panel after the last.
+/// Applies each event of a sheet in turn, with every right, and draws the whole panel after the
+/// last.
 pub fn run(plant: Plant, sheet: &[u8], panel: &mut [u8]) -> Run {
     let (events, out) = (sheet.as_ptr(), panel.as_mut_ptr());
     // SAFETY: as in `read`; a lent panel and a lent sheet never overlap.

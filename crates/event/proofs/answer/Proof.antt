@@ -2,9 +2,9 @@ use Rattle.plant.proofs.Laws.{eight-crossings}
 use Rattle.event.proofs.Steps.{judged}
 use Rattle.verdict.proofs.Cases.{taken-by, refused-by}
 use Rattle.verdict.specs.Cases.{verdict}
-use Rattle.machine.proofs.Taken.{refused-answer}
-use Rattle.machine.specs.Events.{number}
-use mathlib.Core.Path.{_≡_, sym, _∙_, ap, subst}
+use Rattle.machine.proofs.Taken.{refused-answer, as-listed}
+use Rattle.machine.specs.Events.{listed, sent, is-known, entitled, number}
+use mathlib.Core.Path.{_≡_, refl, sym, _∙_, ap, subst}
 use Rattle.machine.specs.Step.{step}
 use borrow.Author.Needs.{needs}
 use Rattle.event.proofs.answer.Statement.{statement}
@@ -32,16 +32,17 @@ enum-known-v : tie.Need-enum-known-v
 enum-known-v c = search needs
 
 take-requires : tie.Need-take-requires
+unfolding is-known entitled
 take-requires c κs =
-    let a = c .before .before .before .before .before .before .before .before in
+    let k = c .before .before .before in
+    let a = k .before .before .before .before .before in
     let p = a .args .t1 in
     let e = a .args .e in
-    let q = a .pre in
+    let x = sent (a .args .sender) e in
     let len = eight-crossings p _ (a .good .0) in
-    let j : c .before .before .before .judge .result ≡ verdict (number p e) e = c .before .before .before .judge .ensures .0 ∙ ap (λ k. verdict k e) (judged p e len q) in
-    let k = c .before .v .given .1 in
-    let h = taken-by (number p e) e (c .before .v .given .0 .0) (sym j ∙ k) in
-    subst (λ x. number p x ≡ 0) (h .1) (h .0)
+    let j : k .judge .result ≡ verdict (number p x) e = judged p x _ _ len (a .pre .0) (a .pre .1) refl (k .judge .ensures .0) in
+    let h = taken-by (number p x) e (c .before .v .given .0 .0) (sym j ∙ c .before .v .given .1) in
+    subst (λ y. number p (listed y) ≡ 0) (h .1) (as-listed p x (h .0) .0)
 
 enum-known-v-2 : tie.Need-enum-known-v-2
 enum-known-v-2 c = search needs
@@ -50,28 +51,30 @@ refused-requires : tie.Need-refused-requires
 refused-requires c κs = search needs
 
 returns : tie.Need-returns
+unfolding is-known entitled
 returns c =
-    let a = c .before .before .before .before .before .before .before .before .before in
+    let k = c .before .before .before .before in
+    let a = k .before .before .before .before .before in
     let p = a .args .t1 in
     let e = a .args .e in
-    let q = a .pre in
+    let x = sent (a .args .sender) e in
     let len = eight-crossings p _ (a .good .0) in
-    let j : c .before .before .before .before .judge .result ≡ verdict (number p e) e = c .before .before .before .before .judge .ensures .0 ∙ ap (λ k. verdict k e) (judged p e len q) in
-    let k = c .before .before .v .given .1 in
-    let h = taken-by (number p e) e (c .before .before .v .given .0 .0) (sym j ∙ k) in
-    c .take .ensures ∙ sym (ap (step p) (h .1))
+    let j : k .judge .result ≡ verdict (number p x) e = judged p x _ _ len (a .pre .0) (a .pre .1) refl (k .judge .ensures .0) in
+    let h = taken-by (number p x) e (c .before .before .v .given .0 .0) (sym j ∙ c .before .before .v .given .1) in
+    c .take .ensures ∙ sym (as-listed p x (h .0) .1 ∙ ap (λ y. step p (listed y)) (h .1))
 
 returns-2 : tie.Need-returns-2
+unfolding is-known entitled
 returns-2 c =
-    let a = c .before .before .before .before .before .before .before .before .before in
+    let k = c .before .before .before .before in
+    let a = k .before .before .before .before .before in
     let p = a .args .t1 in
     let e = a .args .e in
-    let q = a .pre in
+    let x = sent (a .args .sender) e in
     let len = eight-crossings p _ (a .good .0) in
-    let j : c .before .before .before .before .judge .result ≡ verdict (number p e) e = c .before .before .before .before .judge .ensures .0 ∙ ap (λ k. verdict k e) (judged p e len q) in
-    let k = c .before .before .v2 .given .1 in
-    let h = refused-by (number p e) (c .before .before .v2 .given .0 .0) e (sym j ∙ k) in
-    c .refused .ensures ∙ sym (rw (h .0) at (refused-answer p e (h .1)))
+    let j : k .judge .result ≡ verdict (number p x) e = judged p x _ _ len (a .pre .0) (a .pre .1) refl (k .judge .ensures .0) in
+    let h = refused-by (number p x) (c .before .before .v2 .given .0 .0) e (sym j ∙ c .before .before .v2 .given .1) in
+    c .refused .ensures ∙ sym (rw (h .0) at (refused-answer p x (h .1)))
 
 pub answer-spec : {M : Type 1} → statement M
 answer-spec =

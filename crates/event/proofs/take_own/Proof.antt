@@ -1,4 +1,5 @@
 use Rattle.event.proofs.Steps.{own-below, own-room, own-step}
+use Rattle.machine.specs.Events.{listed}
 use Rattle.plant.proofs.Laws.{eight-crossings, crossing-read}
 use borrow.Author.Tests.{ne-eqb}
 use lib.ListN.{length}
@@ -34,8 +35,8 @@ apply-requires c κs =
     let e = a .args .e in
     let z = ne-eqb (e .code) 0 (a .pre .1) in
     let len = eight-crossings p _ (a .good .0) in
-    let l : e .crossing < length (p .crossings) = omega (arith, own-below p e (a .pre .0) z) in
-    rw (crossing-read (p .crossings) (e .crossing) l) (own-room p e (a .pre .0) z)
+    let l : e .crossing < length (p .crossings) = omega (arith, own-below p (listed e) (a .pre .0) z) in
+    rw (crossing-read (p .crossings) (e .crossing) l) (own-room p (listed e) (a .pre .0) z)
 
 mul-d : tie.Need-mul-d
 mul-d c = search needs
@@ -50,8 +51,8 @@ returns c =
     let e = a .args .e in
     let z = ne-eqb (e .code) 0 (a .pre .1) in
     let len = eight-crossings p _ (a .good .0) in
-    let l : e .crossing < length (p .crossings) = omega (arith, own-below p e (a .pre .0) z) in
-    simp (c .apply .ensures, c .before .written-off .ensures .0, crossing-read (p .crossings) (e .crossing) l) (sym (own-step p e len (a .pre .0) z))
+    let l : e .crossing < length (p .crossings) = omega (arith, own-below p (listed e) (a .pre .0) z) in
+    simp (c .apply .ensures, c .before .written-off .ensures .0, crossing-read (p .crossings) (e .crossing) l) (sym (own-step p (listed e) len (a .pre .0) z))
 
 pub take-own-spec : {M : Type 1} → statement M
 take-own-spec =

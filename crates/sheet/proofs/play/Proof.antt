@@ -3,7 +3,7 @@ use mathlib.Core.Path.{_≡_, sym, _∙_, ap}
 use native.Mathlib.Omega.{arith}
 use native.Mathlib.Numerals.{add-one}
 use lib.ListN.{getD}
-use mathlib.Core.Bool.{false}
+use mathlib.Core.Bool.{true, false}
 use borrow.Author.Tests.{ne-eqb}
 use Rattle.machine.specs.declared.Plant.{Plant}
 use Rattle.machine.specs.Plant.{no-entry}
@@ -81,7 +81,7 @@ loop-again c =
     let p = a .args .p in
     let f = sheet-event (a .args .sheet .now) in
     let q : Plant = record { site = p .site; beat = l .beat; crossings = l .crossings } in
-    let v : j .judge .result ≡ verdict (refusal (p .site .n) (getD (p .site .entries) (f (l .k) .crossing % 8) no-entry) (getD (l .crossings) (f (l .k) .crossing % 8) unread) (f (l .k))) (f (l .k)) = rw (j .before .before .before .before .event-at .ensures) at (j .judge .ensures .0) in
+    let v : j .judge .result ≡ verdict (refusal (p .site .n) (getD (p .site .entries) (f (l .k) .crossing % 8) no-entry) (getD (l .crossings) (f (l .k) .crossing % 8) unread) true (f (l .k))) (f (l .k)) = rw (j .before .before .before .before .event-at .ensures) at (j .judge .ensures .0) in
     (omega arith, rw (add-one (l .k)) (played-refused p f (l .k) q (l .taken) (l .refused) (l .written) (l .inv .1) _ v _ (c .enum-told .given .1)))
 
 add-taken : tie.Need-add-taken Inv-loop μ-loop
@@ -115,7 +115,7 @@ loop-again-2 c =
     let p = a .args .p in
     let f = sheet-event (a .args .sheet .now) in
     let q : Plant = record { site = p .site; beat = l .beat; crossings = l .crossings } in
-    let v : j .judge .result ≡ verdict (refusal (p .site .n) (getD (p .site .entries) (f (l .k) .crossing % 8) no-entry) (getD (l .crossings) (f (l .k) .crossing % 8) unread) (f (l .k))) (f (l .k)) = rw (j .before .before .before .before .event-at .ensures) at (j .judge .ensures .0) in
+    let v : j .judge .result ≡ verdict (refusal (p .site .n) (getD (p .site .entries) (f (l .k) .crossing % 8) no-entry) (getD (l .crossings) (f (l .k) .crossing % 8) unread) true (f (l .k))) (f (l .k)) = rw (j .before .before .before .before .event-at .ensures) at (j .judge .ensures .0) in
     let t = taken p f (l .k) q (l .taken) (l .refused) (l .written) (l .inv .1) _ v _ (c .before .before .before .before .before .before .v .given .1) in
     let z : f (l .k) .code ≡ 0 = ap (λ x. x .code) (t .1) ∙ c .before .before .before .if1 .taken in
     let w = c .before .before .tick-all .ensures in
@@ -132,7 +132,7 @@ apply-requires c κs =
     let p = a .args .p in
     let f = sheet-event (a .args .sheet .now) in
     let q : Plant = record { site = p .site; beat = l .beat; crossings = l .crossings } in
-    let v : j .judge .result ≡ verdict (refusal (p .site .n) (getD (p .site .entries) (f (l .k) .crossing % 8) no-entry) (getD (l .crossings) (f (l .k) .crossing % 8) unread) (f (l .k))) (f (l .k)) = rw (j .before .before .before .before .event-at .ensures) at (j .judge .ensures .0) in
+    let v : j .judge .result ≡ verdict (refusal (p .site .n) (getD (p .site .entries) (f (l .k) .crossing % 8) no-entry) (getD (l .crossings) (f (l .k) .crossing % 8) unread) true (f (l .k))) (f (l .k)) = rw (j .before .before .before .before .event-at .ensures) at (j .judge .ensures .0) in
     let t = taken p f (l .k) q (l .taken) (l .refused) (l .written) (l .inv .1) _ v _ (c .before .before .before .before .v .given .1) in
     let z : is 0 (f (l .k)) ≡ false = rw (t .1) (ne-eqb _ _ (c .before .if1 .left)) in
     rw (j .before .before .before .before .event-at .ensures, ← t .1) (own-room-at p f (l .k) q (l .taken) (l .refused) (l .written) (l .inv .1) _ v (t .0) z)
@@ -163,7 +163,7 @@ loop-again-3 c =
     let p = a .args .p in
     let f = sheet-event (a .args .sheet .now) in
     let q : Plant = record { site = p .site; beat = l .beat; crossings = l .crossings } in
-    let v : j .judge .result ≡ verdict (refusal (p .site .n) (getD (p .site .entries) (f (l .k) .crossing % 8) no-entry) (getD (l .crossings) (f (l .k) .crossing % 8) unread) (f (l .k))) (f (l .k)) = rw (j .before .before .before .before .event-at .ensures) at (j .judge .ensures .0) in
+    let v : j .judge .result ≡ verdict (refusal (p .site .n) (getD (p .site .entries) (f (l .k) .crossing % 8) no-entry) (getD (l .crossings) (f (l .k) .crossing % 8) unread) true (f (l .k))) (f (l .k)) = rw (j .before .before .before .before .event-at .ensures) at (j .judge .ensures .0) in
     let t = taken p f (l .k) q (l .taken) (l .refused) (l .written) (l .inv .1) _ v _ (c .before .before .before .before .before .v .given .1) in
     let z : is 0 (f (l .k)) ≡ false = rw (t .1) (ne-eqb _ _ (c .before .before .if1 .left)) in
     let o = own-place p f (l .k) q (l .taken) (l .refused) (l .written) (l .inv .1) _ v (t .0) z in

@@ -1,31 +1,31 @@
 //! Previews: alike on both engines, and as each engine's own event and drawing would have it
 //! (document 02, T-03).
 
-use super::{same, same_bytes, Check, Frames, Pair};
+use super::{same, same_bytes, Answer, Check, Frames, Pair};
 use crate::print::hex;
-use crate::Engine;
+use crate::{Command, Engine};
 use engine::{in_range, panel_len, Plant};
 use gen::Coverage;
 
-/// A preview's number and written-off count, and the lent panel after it.
-type Look = ((u8, u32), Vec<u8>);
+/// A preview's answer, and the lent panel after it.
+type Look = (Answer, Vec<u8>);
 
 impl Pair<'_> {
     /// One preview into a frame as it was lent.
     pub(super) fn preview(
         &self,
         plant: &Plant,
-        e: [u8; 4],
+        command: Command,
         frame: &[u8],
         seen: &mut Coverage,
     ) -> Check {
-        let look = self.look(plant, e, frame)?;
-        seen.preview(plant, e, look.0, &look.1);
+        let look = self.look(plant, command, frame)?;
+        seen.preview(plant, command, look.0, &look.1);
         if !in_range(plant) || frame.len() != panel_len(plant.site.n) {
             return Ok(());
         }
         for engine in [self.first, self.second] {
-            let pressed = press(engine, plant, e, frame);
+            let pressed = press(engine, plant, command, frame);
             let what = pressed.and_then(|pressed| same_look(&pressed, &look));
             what.map_err(|what| format!("{}: {what}", engine.name()))?;
         }
@@ -33,13 +33,13 @@ impl Pair<'_> {
     }
 
     /// One preview, alike on both engines.
-    fn look(&self, plant: &Plant, e: [u8; 4], frame: &[u8]) -> Result<Look, String> {
+    fn look(&self, plant: &Plant, command: Command, frame: &[u8]) -> Result<Look, String> {
         let [first, second] = [self.first, self.second].map(|engine| {
             let mut panel = frame.to_vec();
-            (engine.preview(plant, e, &mut panel), panel)
+            (engine.preview(plant, command, &mut panel), panel)
         });
         let alike = alike(frame, &first, &second);
-        alike.map_err(|what| format!("preview of {}: {what}", hex(&e)))?;
+        alike.map_err(|what| format!("preview of {}: {what}", hex(&command.event)))?;
         Ok(first)
     }
 
@@ -48,21 +48,23 @@ impl Pair<'_> {
     pub(super) fn looked_step(
         &self,
         plant: &mut Plant,
-        e: [u8; 4],
+        command: Command,
         frames: &mut Frames,
         lent: &[u8],
         seen: &mut Coverage,
-    ) -> Check {
-        let look = self.look(plant, e, lent)?;
-        let [code, crossing, place, value] = e;
-        self.look(plant, [code, crossing, place, value.wrapping_add(1)], lent)?;
-        let answer = self.step(plant, e, frames, seen)?;
+    ) -> Result<Answer, String> {
+        let look = self.look(plant, command, lent)?;
+        let mut higher = command;
+        higher.event[3] = higher.event[3].wrapping_add(1);
+        self.look(plant, higher, lent)?;
+        let answer = self.step(plant, command, frames, seen)?;
         seen.preview_in_list(answer.0);
         let panel = match answer.0 {
             0 => frames[0].clone(),
             _ => lent.to_vec(),
         };
-        same_look(&(answer, panel), &look)
+        same_look(&(answer, panel), &look)?;
+        Ok(answer)
     }
 }
 
@@ -76,12 +78,18 @@ fn alike(frame: &[u8], first: &Look, second: &Look) -> Check {
     same_bytes("panel", &first.1, &second.1)
 }
 
-/// The event itself on a copy and, where it is taken, a drawing after it into the same frame.
-fn press(engine: &dyn Engine, plant: &Plant, e: [u8; 4], frame: &[u8]) -> Result<Look, String> {
+/// The event itself on a copy and, where it is taken, a drawing after it for the same sender into
+/// the same frame.
+fn press(
+    engine: &dyn Engine,
+    plant: &Plant,
+    command: Command,
+    frame: &[u8],
+) -> Result<Look, String> {
     let (mut after, mut panel) = (*plant, frame.to_vec());
-    let answer = engine.event(&mut after, e);
+    let answer = engine.event(&mut after, command);
     if answer.0 == 0 {
-        let number = engine.draw(&after, &mut panel);
+        let number = engine.draw(&after, command.sender, &mut panel);
         same("number of a panel after the event", &0, &number)?;
     }
     Ok((answer, panel))

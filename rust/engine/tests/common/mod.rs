@@ -1,7 +1,7 @@
 //! Helpers shared by the tests.
 #![allow(dead_code)]
 
-use engine::{book_len, boom, draw, event, panel_len, Entry, Plant, Site, PANEL};
+use engine::{book_len, boom, code, draw, event, panel_len, sender, Entry, Plant, Site, PANEL};
 
 pub const TICK: [u8; 4] = [0, 0, 0, 0];
 
@@ -40,11 +40,25 @@ pub fn book(site: &Site) -> Vec<u8> {
     out
 }
 
+/// A sender that may send this event, of any value.
+pub fn rightful(e: [u8; 4]) -> u8 {
+    match e[0] {
+        code::KIOSK_HOLD => sender::KIOSK,
+        code::OPERATOR_HOLD | code::TIME_RELEASE => sender::OPERATOR,
+        _ => sender::DETECTION,
+    }
+}
+
+/// The event, from a sender that may send it.
+pub fn send(plant: &mut Plant, e: [u8; 4]) -> (u8, u32) {
+    event(plant, rightful(e), e)
+}
+
 /// Takes every event; gives the trains written off.
 pub fn take(plant: &mut Plant, events: &[[u8; 4]]) -> u32 {
     let mut written_off = 0;
     for e in events {
-        let (number, off) = event(plant, *e);
+        let (number, off) = send(plant, *e);
         assert_eq!(number, 0, "event {e:?}");
         written_off += off;
     }
@@ -54,7 +68,7 @@ pub fn take(plant: &mut Plant, events: &[[u8; 4]]) -> u32 {
 /// The event is refused with this number and changes nothing.
 pub fn refuse(plant: &Plant, e: [u8; 4], number: u8) {
     let mut after = *plant;
-    assert_eq!(event(&mut after, e), (number, 0), "event {e:?}");
+    assert_eq!(send(&mut after, e), (number, 0), "event {e:?}");
     assert_eq!(after, *plant, "event {e:?}");
 }
 
@@ -70,8 +84,13 @@ pub fn at(plant: &Plant, crossing: usize) -> (u8, u16) {
 
 /// The panel bytes of one crossing.
 pub fn panel(plant: &Plant, crossing: usize) -> [u8; PANEL] {
+    view(plant, sender::DETECTION, crossing)
+}
+
+/// What a sender sees of one crossing.
+pub fn view(plant: &Plant, sender: u8, crossing: usize) -> [u8; PANEL] {
     let mut bytes = vec![0xaa; panel_len(plant.site.n)];
-    assert_eq!(draw(plant, &mut bytes), 0);
+    assert_eq!(draw(plant, sender, &mut bytes), 0);
     bytes[PANEL * crossing..][..PANEL].try_into().unwrap()
 }
 

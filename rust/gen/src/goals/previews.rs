@@ -6,7 +6,7 @@ use crate::previewed::LENT;
 use engine::number;
 
 /// The numbers that an event of a plant in range can get.
-const OWN: [u8; 9] = [0, 5, 6, 7, 8, 10, 11, 12, 13];
+const OWN: [u8; 11] = [0, 5, 6, 7, 8, 10, 11, 12, 13, 16, 17];
 /// Trains written off, by place: 0, 1 or more.
 const WRITTEN_OFF: [(usize, usize, &str); 5] = [
     (0, 0, "tick 0"),
@@ -17,7 +17,10 @@ const WRITTEN_OFF: [(usize, usize, &str); 5] = [
 ];
 /// The numbers that keep a tick and a strike-in from writing off. With another place or crossing
 /// a strike-in is another track's.
-const WITHHELD: [(&str, &[u8]); 2] = [("tick", &[6, 7, 8, 14, 15]), ("strike-in", &[8, 14, 15])];
+const WITHHELD: [(&str, &[u8]); 2] = [
+    ("tick", &[6, 7, 8, 14, 15, 16, 17]),
+    ("strike-in", &[8, 14, 15, 16, 17]),
+];
 
 /// By n: taken, and refused for the frame.
 const SIZES: [&str; 2] = ["preview, n", "preview, n wrong frame"];

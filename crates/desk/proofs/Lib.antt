@@ -1,0 +1,3 @@
+mod Tests
+pub mod Rights
+pub mod Views

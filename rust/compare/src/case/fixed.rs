@@ -1,0 +1,117 @@
+//! The cases that do not depend on a seed.
+
+use super::Case;
+use crate::Command;
+use engine::{panel_len, sender, Plant};
+use gen::{
+    all_lengths, event_grid, every_boom, every_flag, lost_plants, lost_reports, plant,
+    preview_grid, right_grid, right_previews, sheet_bytes, swept_grid, views, Rng,
+};
+
+impl Case {
+    /// Books of every length, a grid of events and frames of every length on a few plants, swept
+    /// counters at every kind, lost booms at every kind that has them, and every value of every
+    /// flag and of every boom report; then grids of previews; then of senders. In all but the last
+    /// an event comes from one who may send it, and a panel is drawn for detection.
+    pub fn fixed() -> impl Iterator<Item = Case> {
+        let books = all_lengths().into_iter().map(|book| Case::Read { book });
+        let rng = &mut Rng::new(0);
+        let plants = [(); 12].map(|_| plant(rng)).into_iter();
+        let grids = plants.flat_map(|plant| {
+            let events = event_grid().into_iter();
+            let events = events.map(move |event| rightful(plant, event));
+            events.chain(all_frames(&plant))
+        });
+        let events = swept_grid().into_iter().chain(lost_reports());
+        let events = events.map(|(plant, event)| rightful(plant, event));
+        let lost = lost_plants().into_iter().flat_map(|plant| {
+            let [tick, draw, _] = calls(plant);
+            [tick, draw]
+        });
+        let bytes = every_flag().chain(every_boom()).flat_map(calls);
+        let all = books.chain(grids).chain(events).chain(lost).chain(bytes);
+        all.chain(fixed_previews()).chain(fixed_senders())
+    }
+}
+
+/// The event from one who may send it.
+fn rightful(plant: Plant, event: [u8; 4]) -> Case {
+    let command = Command::rightful(event);
+    Case::Event { plant, command }
+}
+
+/// Frames of every length up to 140 for the three calls that are lent one.
+fn all_frames(plant: &Plant) -> Vec<Case> {
+    let mut cases = Vec::new();
+    for len in 0..=140 {
+        let frame = vec![0xa5; len];
+        cases.push(Case::Write {
+            site: plant.site,
+            frame: frame.clone(),
+        });
+        cases.push(Case::Draw {
+            plant: *plant,
+            sender: sender::DETECTION,
+            frame: frame.clone(),
+        });
+        cases.push(Case::Run {
+            plant: *plant,
+            sheet: sheet_bytes(&[[0; 4]]),
+            frame,
+        });
+    }
+    cases
+}
+
+/// A tick, a panel and a sheet of one tick.
+fn calls(plant: Plant) -> [Case; 3] {
+    let event = [0; 4];
+    let frame = vec![0xa5; panel_len(plant.site.n)];
+    let run = Case::Run {
+        plant,
+        sheet: sheet_bytes(&[event]),
+        frame: frame.clone(),
+    };
+    let draw = Case::Draw {
+        plant,
+        sender: sender::DETECTION,
+        frame,
+    };
+    [rightful(plant, event), draw, run]
+}
+
+/// Bytes of some older panel, none 0 in a right frame and each another than its neighbour.
+fn older(len: usize) -> Vec<u8> {
+    (0..len).map(|i| 0xa5 ^ i as u8).collect()
+}
+
+/// Grids of previews, and every value of every flag and of every boom report.
+fn fixed_previews() -> impl Iterator<Item = Case> {
+    let tick = |plant: Plant| (plant, [0; 4], panel_len(plant.site.n));
+    let bytes = every_flag().chain(every_boom()).map(tick);
+    bytes.chain(preview_grid()).map(|(plant, event, len)| {
+        let command = Command::rightful(event);
+        let frame = older(len);
+        Case::Preview {
+            plant,
+            command,
+            frame,
+        }
+    })
+}
+
+/// Grids of senders: events, previews and panels.
+fn fixed_senders() -> impl Iterator<Item = Case> {
+    let events = right_grid().map(|(plant, command)| Case::Event { plant, command });
+    let previews = right_previews().map(|((plant, event, len), sender)| Case::Preview {
+        plant,
+        command: Command { sender, event },
+        frame: older(len),
+    });
+    let views = views().map(|(plant, sender, len)| Case::Draw {
+        plant,
+        sender,
+        frame: older(len),
+    });
+    events.chain(previews).chain(views)
+}
