@@ -1,9 +1,8 @@
-// What a signal shows, and whether it is lit in a beat (document 01, "Panel").
+// What a signal shows (document 01, "Panel").
 ghost use mathlib.Core.Bool.{cond};
 ghost use mathlib.Core.Path.{_≡_};
 ghost use lib.Dec.{eqb};
 ghost use Rattle.machine.specs.Common.{bit};
-ghost use Rattle.machine.specs.Panel.{rhythm};
 
 // White in normal position, else red; dark if that lamp is dead.
 pub fn road(normal: bool, white: bool, red: bool) -> u8
@@ -30,14 +29,4 @@ pub fn distant(signal: u8) -> u8
     ensures { λ r. ⌜ r ≡ cond (eqb signal 2) 2 1 ⌝ }
 {
     if signal == 2 { 2 } else { 1 }
-}
-
-// Lit in this beat: the slow rhythm in normal position, else the fast one; steady with the flasher dead.
-pub fn rhythm(beat: u8, flasher: bool, normal: bool) -> bool
-    ensures { λ r. ⌜ r ≡ rhythm beat flasher normal ⌝ }
-{
-    if normal {
-        return !flasher | (beat == 0);
-    }
-    !flasher | ((beat == 0) | (beat == 2))
 }

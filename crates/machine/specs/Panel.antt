@@ -1,9 +1,11 @@
 -- Panel: sixteen bytes per crossing.
-use mathlib.Core.Bool.{Bool, cond, not, _&&_, _||_}
+use mathlib.Core.Bool.{Bool, true, cond, not, _&&_, _||_}
 use mathlib.Core.List.{List, [], _∷_}
 use Prim.Native.Nat.{ℕ, _+_, _*_}
 use lib.Dec.{eqb, ltb}
 use lib.ListN.{length}
+pub use Rattle.machine.specs.declared.Rhythm.{Rhythm}
+use Rattle.machine.specs.declared.Rhythm.the-variants.{Slow, Fast, Steady}
 use Rattle.machine.specs.Common.{tab, concat-below, sum4, bit, refuse, byte, low, high}
 use Rattle.machine.specs.Numbers.{bad-output-length, out-of-range, unknown-sender}
 use Rattle.machine.specs.Plant.{Entry, Crossing, Plant, overdue-ticks, calling, waiting, route, boom, lamp, kiosk, operator, entry, crossing, dependent, lights-only, booms-down, normal, secured}
@@ -18,6 +20,10 @@ has-booms s = not (lights-only (s .kind))
 unfoldable pub road : Entry → Crossing → ℕ
 road s c = cond (normal s c) (bit (lamp c 0) 1) (bit (lamp c 1) 2)
 
+-- byte 3, boom lamps: 1 out of normal, kinds 2 to 4
+unfoldable pub boom-lamps : Entry → Crossing → ℕ
+boom-lamps s c = bit (not (normal s c) && has-booms s) 1
+
 -- byte 6, train signal: 2 passable when secured, else 1 stop; 0 if that lamp is dead
 unfoldable pub signal : Entry → Crossing → ℕ
 signal s c = cond (secured s c) (bit (lamp c 3) 2) (bit (lamp c 2) 1)
@@ -26,34 +32,30 @@ signal s c = cond (secured s c) (bit (lamp c 3) 2) (bit (lamp c 2) 1)
 unfoldable pub distant : Entry → Crossing → ℕ
 distant s c = cond (eqb (signal s c) 2) 2 1
 
--- slow rhythm, lit at beat 0; flasher dead: steady
-abbrev pub slow : ℕ → Bool → Bool
-slow beat flasher = not flasher || eqb beat 0
+-- lit in a beat: slow rhythm, at beat 0; fast, at beats 0 and 2; steady, at every beat (T-05)
+unfoldable pub lit-at : Rhythm → ℕ → Bool
+lit-at Slow beat = eqb beat 0
+lit-at Fast beat = eqb beat 0 || eqb beat 2
+lit-at Steady beat = true
 
--- fast rhythm, lit at beats 0 and 2; flasher dead: steady
-abbrev pub fast : ℕ → Bool → Bool
-fast beat flasher = not flasher || (eqb beat 0 || eqb beat 2)
+-- which rhythm a signal has, by what it shows: slow for road white and for stop and violet in normal position, each of them 1; fast for all
+-- else; flasher dead: steady (T-05). `still` is normal position: the road shows white in no other, and boom lamps are off in it
+unfoldable pub rhythm : Bool → Bool → ℕ → Rhythm
+rhythm flasher still shown = cond flasher (cond (still && eqb shown 1) Slow Fast) Steady
 
--- slow for road white and for stop and violet in normal position, fast for all else
-unfoldable pub rhythm : ℕ → Bool → Bool → Bool
-rhythm beat flasher still = cond still (slow beat flasher) (fast beat flasher)
+-- a signal is lit in this beat; a dark one is not
+unfoldable pub is-lit : ℕ → Bool → Bool → ℕ → Bool
+is-lit beat flasher still shown = ltb 0 shown && lit-at (rhythm flasher still shown) beat
 
--- byte 1, lit in this beat: bits 1 road, 2 boom lamps, 4 train signal, 8 distant; a dark signal is not lit
+-- byte 1, lit in this beat: bits 1 road, 2 boom lamps, 4 train signal, 8 distant
 unfoldable pub lit : ℕ → Entry → Crossing → ℕ
 lit beat s c =
-    let on = rhythm beat (lamp c 4) (normal s c) in
-    bit (ltb 0 (road s c) && on) 1
-    + bit (not (normal s c) && has-booms s && on) 2
-    + bit (ltb 0 (signal s c) && on) 4
-    + bit on 8
+    let on = is-lit beat (lamp c 4) (normal s c) in
+    bit (on (road s c)) 1 + bit (on (boom-lamps s c)) 2 + bit (on (signal s c)) 4 + bit (on (distant s c)) 8
 
 -- byte 2, bell: 1 out of normal, unless there are booms and all are reported down
 unfoldable pub bell : Entry → Crossing → ℕ
 bell s c = bit (not (normal s c) && not (has-booms s && booms-down (s .kind) (boom c))) 1
-
--- byte 3, boom lamps: 1 out of normal, kinds 2 to 4
-unfoldable pub boom-lamps : Entry → Crossing → ℕ
-boom-lamps s c = bit (not (normal s c) && has-booms s) 1
 
 -- byte 4, order down, right: phases 2 and 3; 0 for kind 1
 unfoldable pub right-down : Entry → Crossing → ℕ

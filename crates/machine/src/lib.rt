@@ -64,6 +64,13 @@ pub struct Event {
     pub value: u8,
 }
 
+// How a signal flashes (document 02, T-05): 45 flashes a minute, 90 flashes a minute, or not at all.
+pub enum Rhythm {
+    Slow,
+    Fast,
+    Steady,
+}
+
 // What an event call returns: number 0 if taken, the trains written off, the plant after it.
 #[repr(C)]
 pub struct Answer {

@@ -16,7 +16,7 @@ pub fn row(beat: u8, s: Entry, c: Crossing) -> [u8; 16]
     let waiting = panel_bytes::sum(c.waiting);
     let road = aspect::road(normal, c.lamps[0] == 1, c.lamps[1] == 1);
     let signal = aspect::signal(secured, c.lamps[3] == 1, c.lamps[2] == 1);
-    let on = aspect::rhythm(beat, c.lamps[4] == 1, normal);
+    let on = rhythm::lit_now(beat, c.lamps[4] == 1, normal);
     [
         road,
         bits::flags(

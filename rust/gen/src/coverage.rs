@@ -42,7 +42,8 @@ pub struct Coverage {
     pub(crate) phases: [[u64; 5]; 5],
     pub(crate) moves: [[u64; 5]; 5],
     pub(crate) bytes: [ByteCounts; PANEL],
-    pub(crate) signals: [ByteCounts; 3],
+    /// By rhythm and beat: the signals shown, then the signals lit.
+    pub(crate) signals: [[ByteCounts; 4]; 3],
     pub(crate) written_off: [u64; 3],
     pub(crate) panels: u64,
     pub(crate) flags: [FlagBytes; 6],
@@ -170,7 +171,8 @@ impl Coverage {
             }
             let shown = [bytes[0], bytes[3], bytes[6], bytes[7]].map(|aspect| aspect != 0);
             let shown = (0..4).map(|s| u8::from(shown[s]) << s).sum::<u8>();
-            self.signals[rhythm(record)].count(shown << 4 | bytes[1] & 15);
+            let row = &mut self.signals[rhythm(record)][usize::from(plant.beat)];
+            row.count(shown << 4 | bytes[1] & 15);
             self.lost.panel(entry, record, bytes[6] == 1, bytes[2] == 1);
         }
     }
@@ -201,7 +203,8 @@ impl Coverage {
         sums(self.moves.as_flattened_mut(), other.moves.as_flattened());
         sums(&mut self.written_off, &other.written_off);
         let bytes = self.bytes.iter_mut().zip(&other.bytes);
-        let signals = self.signals.iter_mut().zip(&other.signals);
+        let signals = self.signals.as_flattened_mut().iter_mut();
+        let signals = signals.zip(other.signals.as_flattened());
         bytes.chain(signals).for_each(|(a, b)| a.add(b));
         let flags = self.flags.iter_mut().zip(&other.flags);
         flags.for_each(|(a, b)| a.add(b));

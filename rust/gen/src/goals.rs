@@ -229,24 +229,18 @@ impl Coverage {
         goals
     }
 
+    /// Each row of the table of rhythms (document 02, T-05), met by each signal that has the rhythm.
     fn rhythm_goals(&self) -> Vec<Goal> {
         let mut goals = Vec::new();
         for (s, signal) in SIGNALS.into_iter().enumerate() {
-            let shown = |b: u8| b >> (4 + s) & 1 == 1;
-            let lit = |b: u8| b >> s & 1 == 1;
-            for (counts, rhythm) in self.signals.iter().zip(RHYTHMS) {
-                let mut goal = |name, count| goals.push(Goal::once(signal, name, count));
+            for (beats, rhythm) in self.signals.iter().zip(RHYTHMS) {
                 // Boom lamps show out of normal position only, where nothing is slow.
-                match rhythm {
-                    "slow" if s == 1 => {}
-                    "steady" => goal(rhythm.into(), counts.sum(shown)),
-                    _ => {
-                        goal(format!("{rhythm} lit"), counts.sum(|b| shown(b) && lit(b)));
-                        goal(
-                            format!("{rhythm} dark"),
-                            counts.sum(|b| shown(b) && !lit(b)),
-                        );
-                    }
+                if (s, rhythm) == (1, "slow") {
+                    continue;
+                }
+                for (beat, counts) in beats.iter().enumerate() {
+                    let shown = counts.sum(|b| b >> (4 + s) & 1 == 1);
+                    goals.push(Goal::once(signal, format!("{rhythm} {beat}"), shown));
                 }
             }
         }

@@ -1,6 +1,7 @@
 use native.Mathlib.Nat.{add-zero}
-use Rattle.machine.specs.Panel.{row, road, signal, distant, lit, bell, boom-lamps, right-down, left-down, released, releases-shown, status, holds}
+use Rattle.machine.specs.Panel.{row, road, signal, distant, bell, boom-lamps, right-down, left-down, released, releases-shown, status, holds}
 use borrow.Author.Needs.{needs}
+use Rattle.rhythm.proofs.Signals.{one-rhythm}
 use Rattle.panel_row.proofs.row.Statement.{statement}
 use Rattle.panel_row.proofs.row.Tie as tie
 
@@ -37,11 +38,11 @@ element-copy-out-signal-2 c = search needs
 signal-requires : tie.Need-signal-requires
 signal-requires c κs = search needs
 
-element-copy-out-rhythm : tie.Need-element-copy-out-rhythm
-element-copy-out-rhythm c = search needs
+element-copy-out-lit-now : tie.Need-element-copy-out-lit-now
+element-copy-out-lit-now c = search needs
 
-rhythm-requires : tie.Need-rhythm-requires
-rhythm-requires c κs = search needs
+lit-now-requires : tie.Need-lit-now-requires
+lit-now-requires c κs = search needs
 
 flags-requires : tie.Need-flags-requires
 flags-requires c κs = search needs
@@ -86,8 +87,8 @@ high-requires-2 : tie.Need-high-requires-2
 high-requires-2 c κs = search needs
 
 returns : tie.Need-returns
-unfolding row road signal distant lit bell boom-lamps right-down left-down released releases-shown status holds
-returns c = simp (c .high2 .ensures, c .before .low2 .ensures, c .before .before .high .ensures, c .before .before .before .low .ensures, c .before .before .before .before .flags3 .ensures, c .before .before .before .before .before .flags2 .ensures, c .before .before .before .before .before .before .released .ensures, c .before .before .before .before .before .before .before .before .distant .ensures, c .before .before .before .before .before .before .before .before .before .bit4 .ensures, c .before .before .before .before .before .before .before .before .before .before .before .bit3 .ensures, c .before .before .before .before .before .before .before .before .before .before .before .before .bit2 .ensures, c .before .before .before .before .before .before .before .before .before .before .before .before .before .bit .ensures, c .before .before .before .before .before .before .before .before .before .before .before .before .before .before .down .ensures, c .before .before .before .before .before .before .before .before .before .before .before .before .before .before .before .flags .ensures, c .before .before .before .before .before .before .before .before .before .before .before .before .before .before .before .before .rhythm .ensures, c .before .before .before .before .before .before .before .before .before .before .before .before .before .before .before .before .before .before .signal .ensures, c .before .before .before .before .before .before .before .before .before .before .before .before .before .before .before .before .before .before .before .before .before .road .ensures, c .before .before .before .before .before .before .before .before .before .before .before .before .before .before .before .before .before .before .before .before .before .before .before .before .sum2 .ensures, c .before .before .before .before .before .before .before .before .before .before .before .before .before .before .before .before .before .before .before .before .before .before .before .before .before .before .sum .ensures, c .before .before .before .before .before .before .before .before .before .before .before .before .before .before .before .before .before .before .before .before .before .before .before .before .before .before .before .before .before .is-secured .ensures, c .before .before .before .before .before .before .before .before .before .before .before .before .before .before .before .before .before .before .before .before .before .before .before .before .before .before .before .before .before .before .is-normal .ensures, c .before .before .before .before .before .before .before .before .before .before .before .before .before .before .before .before .before .before .before .before .before .before .before .before .before .before .before .before .before .before .before .lights-only .ensures, add-zero)
+unfolding row road signal distant bell boom-lamps right-down left-down released releases-shown status holds
+returns c = simp (c .high2 .ensures, c .before .low2 .ensures, c .before .before .high .ensures, c .before .before .before .low .ensures, c .before .before .before .before .flags3 .ensures, c .before .before .before .before .before .flags2 .ensures, c .before .before .before .before .before .before .released .ensures, c .before .before .before .before .before .before .before .before .distant .ensures, c .before .before .before .before .before .before .before .before .before .bit4 .ensures, c .before .before .before .before .before .before .before .before .before .before .before .bit3 .ensures, c .before .before .before .before .before .before .before .before .before .before .before .before .bit2 .ensures, c .before .before .before .before .before .before .before .before .before .before .before .before .before .bit .ensures, c .before .before .before .before .before .before .before .before .before .before .before .before .before .before .down .ensures, c .before .before .before .before .before .before .before .before .before .before .before .before .before .before .before .flags .ensures, c .before .before .before .before .before .before .before .before .before .before .before .before .before .before .before .before .lit-now .ensures, c .before .before .before .before .before .before .before .before .before .before .before .before .before .before .before .before .before .before .signal .ensures, c .before .before .before .before .before .before .before .before .before .before .before .before .before .before .before .before .before .before .before .before .before .road .ensures, c .before .before .before .before .before .before .before .before .before .before .before .before .before .before .before .before .before .before .before .before .before .before .before .before .sum2 .ensures, c .before .before .before .before .before .before .before .before .before .before .before .before .before .before .before .before .before .before .before .before .before .before .before .before .before .before .sum .ensures, c .before .before .before .before .before .before .before .before .before .before .before .before .before .before .before .before .before .before .before .before .before .before .before .before .before .before .before .before .before .is-secured .ensures, c .before .before .before .before .before .before .before .before .before .before .before .before .before .before .before .before .before .before .before .before .before .before .before .before .before .before .before .before .before .before .is-normal .ensures, c .before .before .before .before .before .before .before .before .before .before .before .before .before .before .before .before .before .before .before .before .before .before .before .before .before .before .before .before .before .before .before .lights-only .ensures, one-rhythm, add-zero)
 
 pub row-spec : {M : Type 1} → statement M
 row-spec =
@@ -104,8 +105,8 @@ row-spec =
     element-copy-out-signal
     element-copy-out-signal-2
     signal-requires
-    element-copy-out-rhythm
-    rhythm-requires
+    element-copy-out-lit-now
+    lit-now-requires
     flags-requires
     down-requires
     bit-requires
