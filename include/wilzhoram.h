@@ -24,6 +24,7 @@ typedef struct {
     uint8_t mask;   /* bit t set where track t depends on a route */
     uint16_t pre;   /* F, pre-ringing in ticks, 1 to 180 */
     uint16_t gap;   /* G, right booms to left in ticks, 1 to 90 for kind 4, otherwise 0 */
+    uint16_t pause; /* M, time for motorists between closures in ticks, 0 to 540 (T-06, docs/notes/T-06.md) */
 } wilzhoram_entry;
 
 /* The settings of a plant: n crossings, 1 to 8; the entries past n all zero. */
@@ -50,6 +51,7 @@ typedef struct {
     uint16_t countdown;             /* of the time release, 0 to 270 */
     uint8_t phase;                  /* 0 open, 1 warning, 2 right booms ordered down, 3 all ordered down, 4 raising */
     uint16_t timer;                 /* 1 to F in phase 1, 1 to G in phase 2, otherwise 0 */
+    uint16_t left;                  /* ticks left to motorists, 0 to M in phase 0, otherwise 0 (T-06) */
     uint16_t out;                   /* ticks out of normal, 0 to 901 */
 } wilzhoram_crossing;
 
@@ -103,7 +105,7 @@ typedef struct {
 /* Reads a site book: its fresh plant, or number 1, 2 or 3 and the fresh plant of an all-zero site. */
 wilzhoram_reading wilzhoram_read(const uint8_t *book, size_t length);
 
-/* Writes settings as a site book of 1 + 7n bytes: 0, or number 2, 3 or 14. */
+/* Writes settings as a site book of 1 + 9n bytes: 0, or number 2, 3 or 14. */
 uint8_t wilzhoram_write(wilzhoram_site site, uint8_t *book, size_t length);
 
 /* Applies one event of a sender: the plant after it, or number 5 to 8, 10 to 13 or 15 to 17. */
@@ -124,12 +126,12 @@ wilzhoram_run_result wilzhoram_run(wilzhoram_plant plant, const uint8_t *sheet, 
 /* The stack that a call needs, in bytes: the room for its result and arguments by value, and all that it uses below them.
  * Measured by ci/boundary on a thread with a painted stack, over every number and event code, and rounded up. The C
  * library's memory functions, all that a call calls, are bound when the program starts (-z now, or linked statically). */
-#define WILZHORAM_STACK_READ 832
-#define WILZHORAM_STACK_WRITE 320
-#define WILZHORAM_STACK_EVENT 4032
-#define WILZHORAM_STACK_DRAW 1152
-#define WILZHORAM_STACK_PREVIEW 3648
-#define WILZHORAM_STACK_RUN 3072
+#define WILZHORAM_STACK_READ 960
+#define WILZHORAM_STACK_WRITE 512
+#define WILZHORAM_STACK_EVENT 4288
+#define WILZHORAM_STACK_DRAW 1280
+#define WILZHORAM_STACK_PREVIEW 3904
+#define WILZHORAM_STACK_RUN 3264
 
 #ifdef __cplusplus
 }

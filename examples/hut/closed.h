@@ -4,10 +4,10 @@
 
 #include "hut.h"
 
-/* One crossing, two full booms on a plain track, F 2: operator hold on by a sender that may give it; by detection F ticks and
+/* One crossing, two full booms on a plain track, F 2, M 0: operator hold on by a sender that may give it; by detection F ticks and
  * both booms reported down. */
 static wilzhoram_answer closed_by(uint8_t sender) {
-    static const uint8_t book[] = {1, 3, 1, 0, 2, 0, 0, 0};
+    static const uint8_t book[] = {1, 3, 1, 0, 2, 0, 0, 0, 0, 0};
     static const wilzhoram_event_bytes hold_on = {4, 0, 0, 1};
     static const wilzhoram_event_bytes closing[] = {
         {0, 0, 0, 0}, {0, 0, 0, 0}, {8, 0, 0, WILZHORAM_BOOM_DOWN}, {8, 0, 1, WILZHORAM_BOOM_DOWN},

@@ -2,8 +2,8 @@
 #include "hut.h"
 
 int main(void) {
-    /* Two crossings: two full booms on one track, four full booms on two tracks, track 1 of them dependent. */
-    static const uint8_t book[] = {2, 3, 1, 0, 4, 2, 2, 2, 0, 0, 0, 30, 0, 18, 0};
+    /* Two crossings: two full booms on one track; four full booms on two tracks, track 1 of them dependent, M 90 (T-06). */
+    static const uint8_t book[] = {2, 3, 1, 0, 4, 2, 2, 2, 0, 0, 0, 0, 0, 30, 0, 18, 0, 90, 0};
     const wilzhoram_event_bytes strike_in = {1, 0, 0, 0};
     wilzhoram_reading site = wilzhoram_read(book, sizeof book);
     if (refused(site.number) || show(site.plant, WILZHORAM_SENDER_DETECTION))

@@ -9,12 +9,14 @@ import itertools
 import os
 import sys
 
-F0, G0, F1 = 24, 12, 30                         # 8 s and 4 s at crossing 0, 10 s at crossing 1
-SITE = ((4, 2, 0, F0, G0), (2, 2, 2, F1, 0))    # kind, tracks, mask, F, G of each crossing
+F0, G0, M0 = 24, 12, 90                         # 8 s, 4 s and 30 s at crossing 0
+F1 = 30                                         # 10 s at crossing 1, which leaves motorists no time
+SITE = ((4, 2, 0, F0, G0, M0), (2, 2, 2, F1, 0, 0))  # kind, tracks, mask, F, G, M of each crossing
 TRAVEL = 6                                      # ticks from a boom's order to its end position
 ROAD_RED = 1                                    # the lamp reported dead in the afternoon
 UP, MOVING, DOWN, LOST = range(4)               # boom reports
 day = []                                        # its parts, each a heading and events
+opened = {}                                     # by crossing: the ticks before its booms were last up again
 
 # Entering events ----------------------------------------------------------------------------------------------------------------
 
@@ -34,6 +36,16 @@ def ticks(n):
 
 def sheet():
     return [e for _, events in day for e in events]
+
+
+def now():
+    """The ticks so far."""
+    return sum(e[0] == 0 for e in sheet())
+
+
+def left(c):
+    """The ticks that motorists have left: M from when the booms were up again (T-06)."""
+    return max(0, opened[c] + SITE[c][5] - now()) if c in opened else 0
 
 
 def strike(c, t, refused=0): event(1, c, t, 0, refused)
@@ -56,7 +68,8 @@ def booms(c, which, end):
 
 
 def close(c):
-    """From the call to the last boom down, as the crossing orders it."""
+    """From the call to the last boom down, as the crossing orders it, once motorists have had their time."""
+    ticks(left(c))
     if c == 0:
         ticks(F0)
         booms(0, (0, 1), DOWN)
@@ -69,6 +82,7 @@ def close(c):
 
 def rise(c):
     booms(c, (0, 1, 2, 3) if c == 0 else (0, 1), UP)
+    opened[c] = now()
 
 
 def plain_train(c, t):
@@ -147,19 +161,19 @@ event(8, 1, 2, 0, refused=7)
 strike(2, 0, refused=6)
 event(10, refused=5)
 
-part("Evening: more trains.")
+part("Evening: more trains. At crossing 0 each calls while motorists have time left, and waits for the warning.")
 for k in range(6):
     plain_train(0, k % 2)
     stopping_train()
 
-part("A kiosk hold, given up during the warning. The last train has its route and has not passed when the sheet ends.")
+part("A kiosk hold, which waits for motorists too, given up during the warning. The last train has its route and has not passed when the sheet ends.")
 kiosk(0, 1)
-ticks(5)
+ticks(left(0) + 5)
 kiosk(0, 0)
 strike(1, 1)
 route(1, 1, 1)
 close(1)
-ticks(-sum(e[0] == 0 for e in sheet()) % 4)     # the panel is drawn at beat 0
+ticks(-now() % 4)                               # the panel is drawn at beat 0
 
 # In words -----------------------------------------------------------------------------------------------------------------------
 KINDS = {1: "lights only", 2: "half booms", 3: "two full booms", 4: "four full booms"}
@@ -186,9 +200,9 @@ def length(n):
     return f"{n} ticks ({n / 3:.3g} s)"
 
 
-def entry_words(kind, tracks, mask, f, g):
+def entry_words(kind, tracks, mask, f, g, m):
     named = [f"track {t} " + ("depends on a route" if mask >> t & 1 else "plain") for t in range(tracks)]
-    return f"{KINDS[kind]}; {', '.join(named)}; F {length(f)}" + (f", G {length(g)}" if g else "")
+    return f"{KINDS[kind]}; {', '.join(named)}; F {length(f)}" + (f", G {length(g)}" if g else "") + (f", M {length(m)}" if m else "")
 
 
 def event_words(code, crossing, place, value):

@@ -5,9 +5,9 @@
 #include "wilzhoram.h"
 #include <stdbool.h>
 
-enum { BOOK_MOST = 1 + 7 * 8, SHEET_MOST = 2 + 4 * 4096, PANEL_MOST = 16 * 8, SPOILT = 15, UNKNOWN = 16, NUMBERS = 18 };
+enum { BOOK_MOST = 1 + 9 * 8, SHEET_MOST = 2 + 4 * 4096, PANEL_MOST = 16 * 8, SPOILT = 15, UNKNOWN = 16, NUMBERS = 18 };
 
-/* range.c: document 01, "Site book" and "What the plant holds"; document 02, T-01. */
+/* range.c: document 01, "Site book" and "What the plant holds"; document 02, T-01 and T-06. */
 unsigned settings_number(const wilzhoram_site *site); /* 0, 2 or 3 */
 bool in_range(const wilzhoram_plant *plant);
 bool same_plant(const wilzhoram_plant *a, const wilzhoram_plant *b); /* field by field */

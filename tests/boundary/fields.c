@@ -1,12 +1,12 @@
 /* Every field of a crossing, by an event that moves it: the header's fields are the library's, also where two have the same
- * range. The plant after each event is worked out by hand from document 01, amended by request T-01 of document 02. */
+ * range. The plant after each event is worked out by hand from document 01, amended by requests T-01 and T-06 of document 02. */
 #include "boundary.h"
 #include <stdio.h>
 #include <string.h>
 
 /* Crossing 0: lights only, a plain track, F 1. Crossing 1, the one that is played: four full booms, four tracks, 1 and 3 of
- * them dependent, F 3, G 2. */
-static const uint8_t book[] = {2, 1, 1, 0, 4, 4, 10, 1, 0, 0, 0, 3, 0, 2, 0};
+ * them dependent, F 3, G 2, M 258. */
+static const uint8_t book[] = {2, 1, 1, 0, 4, 4, 10, 1, 0, 0, 0, 0, 0, 3, 0, 2, 0, 2, 1};
 
 static wilzhoram_plant plant, wanted;
 static wilzhoram_crossing *const held = &plant.crossings[1], *const want = &wanted.crossings[1];
@@ -14,7 +14,7 @@ static unsigned events;
 
 static void begin(void) {
     wilzhoram_reading reading = wilzhoram_read(book, sizeof book);
-    wanted.site = (wilzhoram_site){2, {{1, 1, 0, 1, 0}, {4, 4, 10, 3, 2}}};
+    wanted.site = (wilzhoram_site){2, {{1, 1, 0, 1, 0, 0}, {4, 4, 10, 3, 2, 258}}};
     memset(wanted.crossings[0].lamps, 1, 5);
     memset(want->lamps, 1, 5);
     if (reading.number != 0 || !same_plant(&reading.plant, &wanted))
@@ -110,11 +110,22 @@ static void swept(void) {
     play(0, 0, 0, 254 + 3 * 255);
 }
 
+/* T-06: raising that ends, the booms being up, leaves M ticks to motorists, and a tick one fewer. */
+static void motorists(void) {
+    held->phase = 4;
+    want->left = 258;
+    play(6, 0, 0, 0);
+    wanted.beat = 3;
+    want->left = 257;
+    play(0, 0, 0, 0);
+}
+
 int main(void) {
     begin();
     reports();
     traffic();
     swept();
+    motorists();
     printf("boundary: %u events, each in the fields that the header has for it\n", events);
     return 0;
 }

@@ -14,19 +14,22 @@ void random_bytes(void *at, size_t length) {
         *byte++ = (uint8_t)below(256);
 }
 
-/* A whole book; short times half of the time, so that later phases are reached. */
+/* A whole book; short times half of the time, so that later phases are reached; M 0 half of the time. */
 size_t random_book(uint8_t *book, unsigned n) {
     uint8_t *first = book + 1, *second = book + 1 + 3 * n;
     book[0] = (uint8_t)n;
-    for (unsigned i = 0; i < n; i++, first += 3, second += 4) {
+    for (unsigned i = 0; i < n; i++, first += 3, second += 6) {
         first[0] = (uint8_t)(1 + below(4));
         first[1] = (uint8_t)(1 + below(4));
         first[2] = (uint8_t)below(1u << first[1]);
         second[0] = (uint8_t)(1 + below(below(2) ? 3 : 180));
         second[2] = first[0] == 4 ? (uint8_t)(1 + below(below(2) ? 3 : 90)) : 0;
         second[1] = second[3] = 0;
+        uint32_t pause = below(2) ? 0 : below(below(2) ? 4 : 541);
+        second[4] = (uint8_t)pause;
+        second[5] = (uint8_t)(pause >> 8);
     }
-    return 1 + 7 * n;
+    return 1 + 9 * n;
 }
 
 wilzhoram_plant random_fresh(unsigned n) {

@@ -1,6 +1,6 @@
 /* Plants of any bytes, handed to every call that takes a plant or its settings. Half are random bytes throughout; half come
  * from a book by random events, with one to three bytes changed, so that plants in range are met as well. And plants with
- * every value of each unsure flag. Each answer is compared with what document 01, amended by T-01 and T-04, gives; which number
+ * every value of each unsure flag, and with ticks left about their limit. Each answer is compared with what document 01, amended by T-01, T-04 and T-06, gives; which number
  * of 5 to 8, 10 to 13 and 17 an event in range gets is left to ci/compare. */
 #include "boundary.h"
 #include <stdio.h>
@@ -92,7 +92,7 @@ static unsigned run_number(const wilzhoram_plant *plant) {
 
 static unsigned write_number(const wilzhoram_plant *plant) {
     unsigned number = settings_number(&plant->site);
-    return number != 0 ? number : lent_length == 1 + 7 * (size_t)plant->site.n ? 0 : 14;
+    return number != 0 ? number : lent_length == 1 + 9 * (size_t)plant->site.n ? 0 : 14;
 }
 
 typedef struct {
@@ -180,11 +180,11 @@ static void try_all(const wilzhoram_plant *plant) {
     try_call(&draw_trial, plant, &after);
     try_call(&preview_trial, plant, &after);
     try_call(&run_trial, plant, &after);
-    choose_inputs(plant, 1 + 7 * (size_t)plant->site.n);
+    choose_inputs(plant, 1 + 9 * (size_t)plant->site.n);
     try_call(&write_trial, plant, &after);
 }
 
-/* The bytes whose change leaves the plant the same; 362 bytes are the fields'. */
+/* The bytes whose change leaves the plant the same; 394 bytes are the fields'. */
 static void find_padding(void) {
     static const wilzhoram_plant zero;
     for (size_t i = 0; i < sizeof zero; i++) {
@@ -193,8 +193,8 @@ static void find_padding(void) {
         if (same_plant(&plant, &zero))
             padding[paddings++] = i;
     }
-    if (sizeof zero - paddings != 2 + 8 * 7 + 8 * 38)
-        fail("the fields of a plant are %zu bytes, 362 expected", sizeof zero - paddings);
+    if (sizeof zero - paddings != 2 + 8 * 9 + 8 * 40)
+        fail("the fields of a plant are %zu bytes, 394 expected", sizeof zero - paddings);
 }
 
 /* T-01: every value of the unsure flag of each track in each record, in fresh plants of every size. In range: 0, and 1 on a
@@ -210,6 +210,26 @@ static unsigned try_unsure(void) {
             plant.crossings[i].unsure[t] = (uint8_t)value;
             if (in_range(&plant) != (value <= (there ? 1u : 0u)))
                 fail("range.c: value %u of the unsure flag of track %u in record %u of %u", value, t, i, n);
+            try_all(&plant);
+        }
+    }
+    return tried;
+}
+
+/* T-06: ticks left about M of each record, open and all ordered down, in fresh plants of every size. In range: up to M at an open
+ * crossing, otherwise 0. */
+static unsigned try_left(void) {
+    unsigned tried = 0;
+    for (unsigned n = 1; n <= 8; n++) {
+        wilzhoram_plant fresh = random_fresh(n);
+        for (unsigned at = 0; at < 8 * 2 * 5; at++, tried++) {
+            unsigned i = at / 10, pause = fresh.site.entries[i].pause, phase = at % 2 ? 3 : 0;
+            unsigned values[5] = {0, 1, pause, pause + 1, 256 + pause}, value = values[at / 2 % 5];
+            wilzhoram_plant plant = fresh;
+            plant.crossings[i].phase = (uint8_t)phase;
+            plant.crossings[i].left = (uint16_t)value;
+            if (in_range(&plant) != (i < n ? value <= (phase == 0 ? pause : 0) : phase == 0 && value == 0))
+                fail("range.c: %u ticks left in phase %u of record %u of %u, M %u", value, phase, i, n, pause);
             try_all(&plant);
         }
     }
@@ -236,9 +256,9 @@ int main(void) {
             live = changed;
         }
     }
-    unsigned flags = try_unsure();
+    unsigned flags = try_unsure(), lefts = try_left();
     printf("boundary: %u plants of random bytes, %u with bytes changed (%lu in range)", PLANTS, PLANTS, kept);
-    printf(", %u with a value in an unsure flag", flags);
+    printf(", %u with a value in an unsure flag, %u with ticks left", flags, lefts);
     print_tally(&of_event);
     print_tally(&of_draw);
     print_tally(&of_preview);

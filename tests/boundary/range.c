@@ -1,9 +1,10 @@
-/* The ranges of settings and plant, from document 01 and request T-01 of document 02 alone. */
+/* The ranges of settings and plant, from document 01 and requests T-01, T-02 and T-06 of document 02 alone. */
 #include "boundary.h"
 #include <string.h>
 
 static bool same_entry(const wilzhoram_entry *a, const wilzhoram_entry *b) {
-    return a->kind == b->kind && a->tracks == b->tracks && a->mask == b->mask && a->pre == b->pre && a->gap == b->gap;
+    return a->kind == b->kind && a->tracks == b->tracks && a->mask == b->mask && a->pre == b->pre && a->gap == b->gap
+        && a->pause == b->pause;
 }
 
 static bool same_crossing(const wilzhoram_crossing *a, const wilzhoram_crossing *b) {
@@ -12,7 +13,7 @@ static bool same_crossing(const wilzhoram_crossing *a, const wilzhoram_crossing 
         && memcmp(a->unsure, b->unsure, sizeof a->unsure) == 0 && memcmp(a->booms, b->booms, sizeof a->booms) == 0
         && memcmp(a->lamps, b->lamps, sizeof a->lamps) == 0 && a->kiosk == b->kiosk
         && a->operator_hold == b->operator_hold && a->countdown == b->countdown && a->phase == b->phase
-        && a->timer == b->timer && a->out == b->out;
+        && a->timer == b->timer && a->left == b->left && a->out == b->out;
 }
 
 bool same_plant(const wilzhoram_plant *a, const wilzhoram_plant *b) {
@@ -25,7 +26,7 @@ bool same_plant(const wilzhoram_plant *a, const wilzhoram_plant *b) {
 static bool entry_in(const wilzhoram_entry *e) {
     bool gap = e->kind == 4 ? 1 <= e->gap && e->gap <= 90 : e->gap == 0;
     return 1 <= e->kind && e->kind <= 4 && 1 <= e->tracks && e->tracks <= 4 && e->mask >> e->tracks == 0 && 1 <= e->pre
-        && e->pre <= 180 && gap;
+        && e->pre <= 180 && gap && e->pause <= 540;
 }
 
 unsigned settings_number(const wilzhoram_site *site) {
@@ -56,7 +57,7 @@ static bool phase_in(const wilzhoram_entry *e, unsigned phase, unsigned timer) {
 static bool crossing_in(const wilzhoram_entry *e, const wilzhoram_crossing *c) {
     int booms = e->kind == 1 ? 0 : e->kind == 4 ? 4 : 2;
     bool in = c->kiosk <= 1 && c->operator_hold <= 1 && c->countdown <= 270 && c->out <= 901
-        && phase_in(e, c->phase, c->timer);
+        && phase_in(e, c->phase, c->timer) && c->left <= (c->phase == 0 ? e->pause : 0);
     for (int i = 0; i < 4; i++)
         in = in && track_in(e, c, i) && c->booms[i] <= (i < booms ? WILZHORAM_BOOM_LOST : 0);
     for (int i = 0; i < 5; i++)

@@ -9,7 +9,7 @@ use lib.ListN.{length, take, drop}
 use lib.Seq.{take-add, take-all}
 use borrow.Author.Tests.{eq-eqb, ne-eqb, lt-ltb, ltb-true}
 use Rattle.machine.specs.declared.Site.{Site}
-use Rattle.machine.specs.Common.{refuse, byte}
+use Rattle.machine.specs.Common.{refuse, byte, word, low, high}
 use Rattle.machine.specs.Numbers.{bad-output-length}
 use Rattle.machine.specs.Plant.{fresh-plant}
 use Rattle.machine.specs.Range.{entry-zero}
@@ -35,16 +35,21 @@ module _ (b : List ℕ) (bytes : (k : ℕ) → byte b k < 256) (q : read-number 
       let z : k + 0 ≡ k = omega arith in
       rw z at (part-bytes 3 k b (omega arith))
 
-  second-bytes : (i : ℕ) → i < book-size b → second-part (book-entry b i) ≡ take 4 (drop (1 + 3 * book-size b + 4 * i) b)
+  second-bytes : (i : ℕ) → i < book-size b → second-part (book-entry b i) ≡ take 6 (drop (1 + 3 * book-size b + 6 * i) b)
   unfolding second-part book-entry
   second-bytes i l =
       let h = book-reads b q .size in
-      let k = 1 + 3 * book-size b + 4 * i in
+      let k = 1 + 3 * book-size b + 6 * i in
       let z : k + 0 ≡ k = omega arith in
       let e : k + 2 + 1 ≡ k + 3 = omega arith in
-      rw (low-word (byte b k) (byte b (k + 1)) (bytes k), high-word (byte b k) (byte b (k + 1)) (bytes k) (bytes (k + 1)))
-      (rw (low-word (byte b (k + 2)) (byte b (k + 2 + 1)) (bytes (k + 2)), high-word (byte b (k + 2)) (byte b (k + 2 + 1)) (bytes (k + 2)) (bytes (k + 2 + 1)), e)
-      (rw z at (part-bytes 4 k b (omega arith))))
+      let f : k + 4 + 1 ≡ k + 5 = omega arith in
+      rw (low-at k, high-at k) (rw (low-at (k + 2), high-at (k + 2), e) (rw (low-at (k + 4), high-at (k + 4), f) (rw z at (part-bytes 6 k b (omega arith)))))
+    where
+      low-at : (k : ℕ) → low (word b k) ≡ byte b k
+      low-at k = low-word (byte b k) (byte b (k + 1)) (bytes k)
+
+      high-at : (k : ℕ) → high (word b k) ≡ byte b (k + 1)
+      high-at k = high-word (byte b k) (byte b (k + 1)) (bytes k) (bytes (k + 1))
 
   setting-read : (i : ℕ) → i < book-size b → setting (book-site b) i ≡ book-entry b i
   setting-read i l =
@@ -56,14 +61,14 @@ module _ (b : List ℕ) (bytes : (k : ℕ) → byte b k < 256) (q : read-number 
   book-back =
       let n = book-size b in
       let first = concat-same n (λ i. first-part (setting (book-site b) i)) (λ i. take 3 (drop (1 + 3 * i) b)) (λ i l. ap {B = List ℕ} first-part (setting-read i l) ∙ first-bytes i l) in
-      let second = concat-same n (λ i. second-part (setting (book-site b) i)) (λ i. take 4 (drop (1 + 3 * n + 4 * i) b)) (λ i l. ap {B = List ℕ} second-part (setting-read i l) ∙ second-bytes i l) in
-      rw (first ∙ concat-parts 3 1 n b, second ∙ concat-parts 4 (1 + 3 * n) n b) (whole n b (book-reads b q .size))
+      let second = concat-same n (λ i. second-part (setting (book-site b) i)) (λ i. take 6 (drop (1 + 3 * n + 6 * i) b)) (λ i l. ap {B = List ℕ} second-part (setting-read i l) ∙ second-bytes i l) in
+      rw (first ∙ concat-parts 3 1 n b, second ∙ concat-parts 6 (1 + 3 * n) n b) (whole n b (book-reads b q .size))
     where
-      whole : (n : ℕ) (l : List ℕ) → length l ≡ 1 + 7 * n → byte l 0 ∷ (take (3 * n) (drop 1 l) ++ take (4 * n) (drop (1 + 3 * n) l)) ≡ l
+      whole : (n : ℕ) (l : List ℕ) → length l ≡ 1 + 9 * n → byte l 0 ∷ (take (3 * n) (drop 1 l) ++ take (6 * n) (drop (1 + 3 * n) l)) ≡ l
       whole n [] h = absurd (omega arith)
       whole n (x ∷ l) h =
           let e : 1 + 3 * n ≡ suc (3 * n) = omega arith in
-          rw e (ap {B = List ℕ} (λ r. x ∷ r) (sym (take-add (3 * n) (4 * n) l) ∙ take-all (3 * n + 4 * n) l (omega arith)))
+          rw e (ap {B = List ℕ} (λ r. x ∷ r) (sym (take-add (3 * n) (6 * n) l) ∙ take-all (3 * n + 6 * n) l (omega arith)))
 
   number-written : (lent : List ℕ) → write-number (book-site b) lent ≡ refuse (not (eqb (length lent) (length b))) bad-output-length 0
   unfolding write-number book-site entry-zero

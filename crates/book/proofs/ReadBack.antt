@@ -49,14 +49,14 @@ module _ (s : Site) where
       rw e (List·getD-append (concat-below (s .n) f) (concat-below (s .n) (λ j. second-part (setting s j))) 0 (3 * i + k) (omega arith)
       ∙ getD-concat 3 f (λ j. refl) (s .n) i k l d)
 
-  second-at : (i k : ℕ) → i < s .n → k < 4 → byte (book s) (1 + 3 * s .n + 4 * i + k) ≡ getD (second-part (setting s i)) k 0
+  second-at : (i k : ℕ) → i < s .n → k < 6 → byte (book s) (1 + 3 * s .n + 6 * i + k) ≡ getD (second-part (setting s i)) k 0
   unfolding book first-part second-part
   second-at i k l d =
       let f : ℕ → List ℕ = λ j. first-part (setting s j) in
       let g : ℕ → List ℕ = λ j. second-part (setting s j) in
       let m = length-concat 3 f (λ j. refl) (s .n) in
-      let e : 1 + 3 * s .n + 4 * i + k ≡ suc (length (concat-below (s .n) f) + (4 * i + k)) = omega arith in
-      rw e (getD-append-add (concat-below (s .n) f) (concat-below (s .n) g) (4 * i + k) 0 ∙ getD-concat 4 g (λ j. refl) (s .n) i k l d)
+      let e : 1 + 3 * s .n + 6 * i + k ≡ suc (length (concat-below (s .n) f) + (6 * i + k)) = omega arith in
+      rw e (getD-append-add (concat-below (s .n) f) (concat-below (s .n) g) (6 * i + k) 0 ∙ getD-concat 6 g (λ j. refl) (s .n) i k l d)
 
   entry-back : (i : ℕ) → i < s .n → entry-in (setting s i) ≡ true → book-entry (book s) i ≡ setting s i
   unfolding book-entry first-part second-part
@@ -64,20 +64,24 @@ module _ (s : Site) where
       let x = setting s i in
       let v = entry-reads x t in
       let a = 1 + 3 * i in
-      let b = 1 + 3 * s .n + 4 * i in
+      let b = 1 + 3 * s .n + 6 * i in
       let za : a + 0 ≡ a = omega arith in
       let zb : b + 0 ≡ b = omega arith in
       let e : b + 3 ≡ b + 2 + 1 = omega arith in
+      let f : b + 5 ≡ b + 4 + 1 = omega arith in
       let p0 : byte (book s) b ≡ low (x .pre) = rw zb at (second-at i 0 l (lit< tt)) in
       let p1 : byte (book s) (b + 1) ≡ high (x .pre) = second-at i 1 l (lit< tt) in
       let g0 : byte (book s) (b + 2) ≡ low (x .gap) = second-at i 2 l (lit< tt) in
       let g1 : byte (book s) (b + 2 + 1) ≡ high (x .gap) = rw e at (second-at i 3 l (lit< tt)) in
+      let m0 : byte (book s) (b + 4) ≡ low (x .pause) = second-at i 4 l (lit< tt) in
+      let m1 : byte (book s) (b + 4 + 1) ≡ high (x .pause) = rw f at (second-at i 5 l (lit< tt)) in
       rw size-written (entry-by x
       (rw za at (first-at i 0 l (lit< tt)))
       (first-at i 1 l (lit< tt))
       (first-at i 2 l (lit< tt))
       (rw (p0, p1) (word-of (x .pre) (omega (arith, v .pre))))
-      (rw (g0, g1) (word-of (x .gap) (gap-small (x .kind) (x .gap) (v .gap)))))
+      (rw (g0, g1) (word-of (x .gap) (gap-small (x .kind) (x .gap) (v .gap))))
+      (rw (m0, m1) (word-of (x .pause) (omega (arith, v .pause)))))
 
   module _ (lent : List ℕ) (eight : length (s .entries) ≡ 8) (q : write-number s lent ≡ 0) where
     setting-back : (i : ℕ) → i < 8 → cond (ltb i (book-size (book s))) (book-entry (book s) i) no-entry ≡ setting s i

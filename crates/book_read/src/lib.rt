@@ -10,10 +10,18 @@ use settings::refuse;
 ghost use mathlib.Core.Path.{_≡_};
 ghost use Prim.Native.Nat.{_+_, _*_, _≤_, _<_};
 ghost use lib.ListN.{length};
-ghost use Rattle.machine.specs.Common.{all-below};
+ghost use Rattle.machine.specs.Common.{all-below, word};
 ghost use Rattle.machine.specs.Plant.{no-entry};
 ghost use Rattle.machine.specs.Range.{entry-in};
 ghost use Rattle.machine.specs.SiteBook.{book-entry, book-length, book-site, book-size, no-site, read, read-number};
+
+// The number of 16 bits at a place of a book. Inside this crate alone: its two bytes are in the book.
+fn word_at(b: &[u8], at: usize) -> u16
+    requires { ⌜ at + 1 < length (now b) ⌝ }
+    ensures { λ r. ⌜ r ≡ word (now (b .entry)) at ⌝ }
+{
+    word::join(b[at], b[at + 1])
+}
 
 // Entry i of a book. Inside this crate alone: the book has its length and i is below its size.
 fn entry_at(b: &[u8], i: usize) -> Entry
@@ -22,14 +30,14 @@ fn entry_at(b: &[u8], i: usize) -> Entry
 {
     let n = b[0] as usize;
     let first = 1 + 3 * i;
-    let second = 1 + 3 * n + 4 * i;
-    let third = second + 2;
+    let second = 1 + 3 * n + 6 * i;
     Entry {
         kind: b[first],
         tracks: b[first + 1],
         mask: b[first + 2],
-        pre: word::join(b[second], b[second + 1]),
-        gap: word::join(b[third], b[third + 1]),
+        pre: word_at(b, second),
+        gap: word_at(b, second + 2),
+        pause: word_at(b, second + 4),
     }
 }
 
@@ -59,7 +67,7 @@ fn read_number(b: &[u8]) -> u8
     let size = b[0];
     let n = size as usize;
     let counted = count_in(size);
-    if b.len() == 1 + 7 * n {
+    if b.len() == 1 + 9 * n {
         let ranged = entries_in(b);
         return refuse(
             !counted,
@@ -80,6 +88,7 @@ fn no_entry() -> Entry
         mask: 0,
         pre: 0,
         gap: 0,
+        pause: 0,
     }
 }
 

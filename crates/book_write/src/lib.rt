@@ -60,7 +60,7 @@ fn write_number(s: Site, out: &[u8]) -> u8
     let n = s.n as usize;
     let counted = count_in(s.n);
     let ranged = settings_in(s);
-    let fits = out.len() == 1 + 7 * n;
+    let fits = out.len() == 1 + 9 * n;
     refuse(
         !counted,
         numbers::BAD_COUNT,
@@ -82,15 +82,17 @@ fn put_first(out: &mut [u8], at: usize, x: Entry)
     out[at + 2] = x.mask;
 }
 
-// The four bytes of an entry's second part, from a place on. Inside this crate alone: the output has room for them.
+// The six bytes of an entry's second part, from a place on. Inside this crate alone: the output has room for them.
 fn put_second(out: &mut [u8], at: usize, x: Entry)
-    requires { ⌜ at + 4 ≤ length (now out) ⌝ }
+    requires { ⌜ at + 6 ≤ length (now out) ⌝ }
     ensures { λ _. ⌜ now (out .exit) ≡ sets (now (out .entry)) at (second-part x) ⌝ }
 {
     out[at] = word::low(x.pre);
     out[at + 1] = word::high(x.pre);
     out[at + 2] = word::low(x.gap);
     out[at + 3] = word::high(x.gap);
+    out[at + 4] = word::low(x.pause);
+    out[at + 5] = word::high(x.pause);
 }
 
 // The first array. Inside this crate alone: at most eight crossings, and the output has a book's length.
@@ -116,7 +118,7 @@ fn put_seconds(s: Site, out: &mut [u8])
     let mut i: usize = 0;
     while i < n {
         let x = s.entries[i];
-        put_second(out, 1 + 3 * n + 4 * i, x);
+        put_second(out, 1 + 3 * n + 6 * i, x);
         i += 1;
     }
 }

@@ -12,7 +12,7 @@ use Rattle.machine.specs.Plant.{no-crossing, fresh-plant, dependent, reason, bo
 use Rattle.machine.specs.Range.{entry-in, entry-zero, track-in, phase-in, crossing-in, crossing-zero, place-in, in-range}
 use Rattle.machine.specs.Events.{Command, is-known, entitled, place-limit, value-limit, refusal, number}
 use Rattle.machine.specs.Effects.{calling-after, waiting-after, unsure-after, cancels, act, phase-ticked, timer-ticked, tick, written-at}
-use Rattle.machine.specs.Settling.{phase-settled, timer-settled, out-settled, settle}
+use Rattle.machine.specs.Settling.{phase-settled, timer-settled, left-settled, out-settled, settle}
 use Rattle.machine.specs.Step.{touch, apply, written, step, after, carried}
 use Rattle.machine.specs.Panel.{road, signal, distant, lit-at, rhythm, is-lit, lit, bell, boom-lamps, right-down, left-down, released, releases-shown, status, holds, row, panel}
 use Rattle.machine.specs.SiteBook.{book-entry, book-site, read-number, read}
@@ -57,6 +57,7 @@ held = record {
   countdown = 1;
   phase = 3;
   timer = 0;
+  left = 0;
   out = 269;
 }
 
@@ -80,7 +81,7 @@ record Computed : Type 0 where
   pub phase : getD (panel (ended .plant)) 10 0 ≡ 0
 
 computed : Computed
-unfolding fresh-plant dependent reason booms-up booms-down booms-closed normal secured entry-in entry-zero track-in phase-in crossing-in crossing-zero place-in in-range is-known entitled place-limit value-limit refusal number calling-after waiting-after unsure-after cancels act phase-ticked timer-ticked tick written-at phase-settled timer-settled out-settled settle touch apply written step after carried road signal distant lit-at rhythm is-lit lit bell boom-lamps right-down left-down released releases-shown status holds row panel book-entry book-site read-number read played
+unfolding fresh-plant dependent reason booms-up booms-down booms-closed normal secured entry-in entry-zero track-in phase-in crossing-in crossing-zero place-in in-range is-known entitled place-limit value-limit refusal number calling-after waiting-after unsure-after cancels act phase-ticked timer-ticked tick written-at phase-settled timer-settled left-settled out-settled settle touch apply written step after carried road signal distant lit-at rhythm is-lit lit bell boom-lamps right-down left-down released releases-shown status holds row panel book-entry book-site read-number read played
 computed = record { ticks = refl; carries = refl; phase = refl }
 
 ticks-270 : played lights 0 (release 270) ≡ ended

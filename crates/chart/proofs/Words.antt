@@ -20,9 +20,17 @@ strike-in = ev 1 0 0
 abbrev pub passage : Command
 passage = ev 2 0 0
 
--- a book of one crossing with one track, F 2
+-- a book of one crossing with one track, F 2, G 0 and M
+abbrev book : ℕ → ℕ → ℕ → List ℕ
+book kind mask pause = 1 ∷ kind ∷ 1 ∷ mask ∷ 2 ∷ 0 ∷ 0 ∷ 0 ∷ pause ∷ 0 ∷ []
+
+-- with M 0
 abbrev pub site : ℕ → ℕ → List ℕ
-site kind mask = 1 ∷ kind ∷ 1 ∷ mask ∷ 2 ∷ 0 ∷ 0 ∷ 0 ∷ []
+site kind mask = book kind mask 0
+
+-- its track plain, with M 3 (T-06)
+abbrev pub paused : ℕ → List ℕ
+paused kind = book kind 0 3
 
 -- the panel after a list of events from fresh
 abbrev pub shown : List ℕ → List Command → List ℕ

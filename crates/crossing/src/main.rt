@@ -80,7 +80,7 @@ fn print(r: Outcome, panel: &[u8]) {
 
 // The buffers have one byte more than the longest book and the longest sheet, so that a longer file has a wrong length.
 fn main() {
-    let mut site = [0u8; 58];
+    let mut site = [0u8; 74];
     let mut sheet = [0u8; 16387];
     let mut panel = [0u8; 128];
     let a = load(b"site.bin", &mut site);

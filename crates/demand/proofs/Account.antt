@@ -12,10 +12,9 @@ use Rattle.machine.specs.declared.Event.{Event}
 use Rattle.machine.specs.Plant.{calling, waiting, trains, is-full, total}
 use Rattle.machine.specs.Events.{is, is-at, on-track}
 use Rattle.machine.specs.Effects.{sweeps, calling-after, waiting-after, act, releases, tick}
-use Rattle.machine.specs.Settling.{settle}
 use Rattle.machine.proofs.Tools.{and-both, below4}
 use Rattle.machine.proofs.Trains.{trains-after}
-use Rattle.demand.specs.Ledger.{count, State, trains as all-trains, next}
+use Rattle.demand.specs.Ledger.{count, State, trains as all-trains, worked}
 use Rattle.demand.proofs.Agree.{Agree, same-sweep}
 
 -- a mark at one place of four
@@ -31,8 +30,8 @@ module _ (s : Entry) {c : Crossing} {k : State} (a : Agree c k) (e : Event) wher
   -- an event of this crossing: at a track where its code asks for one, and a passage of a train that is there
   module _ (not-tick : is 0 e ≡ false) (placed : (k : ℕ) → on-track k ≡ true → is k e ≡ true → e .place < 4) (there : is 2 e ≡ true → 0 < trains c (e .place)) where
     -- what the ledger writes off for it is what the machine does: 1 where it sweeps
-    pub own-written : next s e k .written ≡ k .written + bit (sweeps c e) 1
-    unfolding next
+    pub own-written : worked s e k .written ≡ k .written + bit (sweeps c e) 1
+    unfolding worked
     own-written = rw (not-tick, ← same-sweep s a e (placed 1 refl)) (omega arith)
 
     own-total : total (act s c e) + bit (is 2 e) 1 + bit (sweeps c e) 1 ≡ total c + bit (is 1 e) 1
@@ -51,15 +50,15 @@ module _ (s : Entry) {c : Crossing} {k : State} (a : Agree c k) (e : Event) wher
         at : (t : ℕ) → calling-after s c e t + waiting-after s c e t + bit (is-at 2 t e) 1 + bit (sweeps c e && eqb (e .place) t) 1 ≡ trains c t + bit (is-at 1 t e) 1
         at t = trains-after s c e t there
 
-    pub own-even : (h : List Event) → Even c k h → Even (settle s 0 (act s c e)) (next s e k) (e ∷ h)
-    unfolding count settle
+    pub own-even : (h : List Event) → Even c k h → Even (act s c e) (worked s e k) (e ∷ h)
+    unfolding count
     own-even h v = omega (arith, own-written, own-total)
 
   -- a tick
   module _ (z : e .code ≡ 0) where
     -- what the ledger writes off is what the machine does: every train where a release completes
-    pub tick-written : next s e k .written ≡ k .written + bit (releases c) (total c)
-    unfolding next
+    pub tick-written : worked s e k .written ≡ k .written + bit (releases c) (total c)
+    unfolding worked
     tick-written = rw (z, same, ← a .countdown) (omega arith)
       where
         at : (t : ℕ) → t < 4 → k .queue t .calling + k .queue t .waiting ≡ trains c t
@@ -76,8 +75,8 @@ module _ (s : Entry) {c : Crossing} {k : State} (a : Agree c k) (e : Event) wher
         both true = omega arith
         both false = omega arith
 
-    pub tick-even : (h : List Event) → Even c k h → Even (settle s 1 (tick s c)) (next s e k) (e ∷ h)
-    unfolding count settle
+    pub tick-even : (h : List Event) → Even c k h → Even (tick s c) (worked s e k) (e ∷ h)
+    unfolding count
     tick-even h v =
         let no-strike-in : is 1 e ≡ false = rw z in
         let no-passage : is 2 e ≡ false = rw z in

@@ -1,21 +1,22 @@
 -- The record of a crossing agrees with the ledger, over a tick and over an event of its own.
-use mathlib.Core.Path.{_≡_, refl, ap}
+use mathlib.Core.Path.{_≡_, refl, _∙_, ap}
 use mathlib.Core.Bool.{Bool, true, false, cond, not, _&&_, _||_}
 use Prim.Native.Nat.{ℕ, zero, suc, _+_, _-_, pred, _<_}
 use native.Mathlib.Nat.{add-zero, sub-zero}
 use native.Mathlib.Omega.{arith}
-use lib.Dec.{eqb, ltb, lit<, eqb·suc-zero}
+use lib.Dec.{eqb, ltb, leb, lit<, eqb·suc-zero}
 use Rattle.machine.specs.Common.{bit}
 use Rattle.machine.specs.declared.Entry.{Entry}
 use Rattle.machine.specs.declared.Crossing.{Crossing}
 use Rattle.machine.specs.declared.Event.{Event}
-use Rattle.machine.specs.Plant.{calling, waiting, route-flag, unsure-flag, boom, lamp-flag, dependent, reason}
+use Rattle.machine.specs.Plant.{calling, waiting, route-flag, unsure-flag, boom, lamp-flag, dependent, boom-count, each-boom, reason, booms-up}
 use Rattle.machine.specs.Events.{is, is-at}
 use Rattle.machine.specs.Effects.{calls, sweeps, calling-after, waiting-after, unsure-after, cancels, act, releases, tick}
 use Rattle.machine.specs.Settling.{settle}
-use Rattle.machine.proofs.Tools.{by-test, getD-tab, each-tab}
-use Rattle.demand.specs.Words.{depends}
-use Rattle.demand.specs.Ledger.{Queue, empty, joined, gone, moved, State, stands, swept, queue-next, unsure-next, countdown-next, next}
+use Rattle.machine.proofs.Tools.{by-test, all-below-same, getD-tab, each-tab}
+use Rattle.demand.specs.Words.{depends, up, all-up}
+use Rattle.demand.specs.Ledger.{Queue, empty, joined, gone, moved, settled, State, stands, swept, queue-next, unsure-next, countdown-next, worked, rested}
+use Rattle.demand.proofs.Stages.{clock-of, numbers, clock-ticked, tick-clock, clock-settled, settle-clock}
 
 abbrev pub queue-of : Crossing → ℕ → Queue
 queue-of c t = record { calling = calling c t; waiting = waiting c t }
@@ -29,6 +30,7 @@ pub record Agree (c : Crossing) (k : State) : Type 0 where
   pub unsure : (t : ℕ) → t < 4 → unsure-flag c t ≡ k .unsure t
   pub boom : (b : ℕ) → b < 4 → boom c b ≡ k .boom b
   pub lamp : (l : ℕ) → l < 5 → lamp-flag c l ≡ k .lamp l
+  pub stage : clock-of c ≡ numbers (k .stage)
 
 -- the machine's two fields against the ledger's one queue: swept strike-in, strike-in, passage, route set, or another event
 queue-law : (b0 b1 b2 b5 r : Bool) (c w : ℕ) →
@@ -62,17 +64,18 @@ module _ (s : Entry) {c : Crossing} {k : State} (a : Agree c k) (e : Event) wher
     unfolding unsure-after unsure-next
     own-unsure t b = rw (not-tick, ← same-sweep placed, ← a .unsure t b)
 
-    pub own-agree : Agree (settle s 0 (act s c e)) (next s e k)
-    unfolding settle act next countdown-next cancels
+    pub own-agree : Agree (act s c e) (worked s e k)
+    unfolding act worked countdown-next cancels
     own-agree = record {
       kiosk = ap (cond (is 3 e) (e .value)) (a .kiosk);
       operator = ap (cond (is 4 e) (e .value)) (a .operator);
       countdown = rw (not-tick, a .countdown);
-      route = each-tab 4 _ 0 (λ t x. x ≡ next s e k .route t) (λ t b. ap (cond (is-at 5 t e) (e .value)) (a .route t b));
+      route = each-tab 4 _ 0 (λ t x. x ≡ worked s e k .route t) (λ t b. ap (cond (is-at 5 t e) (e .value)) (a .route t b));
       queue = own-queue;
-      unsure = each-tab 4 _ 0 (λ t x. x ≡ next s e k .unsure t) own-unsure;
-      boom = each-tab 4 _ 0 (λ b x. x ≡ next s e k .boom b) (λ b l. ap (cond (is-at 8 b e) (e .value)) (a .boom b l));
-      lamp = each-tab 5 _ 0 (λ l x. x ≡ next s e k .lamp l) (λ l b. ap (cond (is-at 9 l e) (e .value)) (a .lamp l b));
+      unsure = each-tab 4 _ 0 (λ t x. x ≡ worked s e k .unsure t) own-unsure;
+      boom = each-tab 4 _ 0 (λ b x. x ≡ worked s e k .boom b) (λ b l. ap (cond (is-at 8 b e) (e .value)) (a .boom b l));
+      lamp = each-tab 5 _ 0 (λ l x. x ≡ worked s e k .lamp l) (λ l b. ap (cond (is-at 9 l e) (e .value)) (a .lamp l b));
+      stage = rw not-tick (a .stage);
     }
 
   -- a tick
@@ -89,17 +92,18 @@ module _ (s : Entry) {c : Crossing} {k : State} (a : Agree c k) (e : Event) wher
     unfolding unsure-next
     tick-unsure t b = rw (z, ← a .countdown, ← a .unsure t b)
 
-    pub tick-agree : Agree (settle s 1 (tick s c)) (next s e k)
-    unfolding settle tick next countdown-next
+    pub tick-agree : Agree (tick s c) (worked s e k)
+    unfolding tick worked countdown-next
     tick-agree = record {
       kiosk = rw z (a .kiosk);
       operator = rw z (a .operator);
       countdown = rw (z, a .countdown);
       route = λ t b. rw z (a .route t b);
       queue = tick-queue;
-      unsure = each-tab 4 _ 0 (λ t x. x ≡ next s e k .unsure t) tick-unsure;
+      unsure = each-tab 4 _ 0 (λ t x. x ≡ worked s e k .unsure t) tick-unsure;
       boom = λ b l. rw z (a .boom b l);
       lamp = λ l b. rw z (a .lamp l b);
+      stage = rw z (ap (clock-ticked s) (a .stage) ∙ tick-clock s (k .stage));
     }
 
 -- the reason of the record is that of the ledger
@@ -113,3 +117,29 @@ reason-stands {c} {k} a = λ i. eqb (a .kiosk i) 1 || eqb (a .operator i) 1 || (
 
     marks : (t : ℕ) → t < 4 → eqb (unsure-flag c t) 1 ≡ eqb (k .unsure t) 1
     marks t b = ap (λ x. eqb x 1) (a .unsure t b)
+
+-- so are the tests of its booms
+pub same-booms : {c : Crossing} {k : State} → Agree c k → (kind : ℕ) (f : ℕ → Bool) → each-boom kind (λ b. f (boom c b)) ≡ each-boom kind (λ b. f (k .boom b))
+same-booms a kind f = all-below-same 4 _ _ (λ b d. ap (λ x. leb (boom-count kind) b || f x) (a .boom b d))
+
+pub same-up : {c : Crossing} {k : State} → Agree c k → (kind : ℕ) → booms-up kind (boom c) ≡ all-up kind (k .boom)
+unfolding booms-up all-up
+same-up a kind = same-booms a kind (λ x. eqb x up)
+
+-- then both settle
+pub settled-agree : (s : Entry) (add : ℕ) {c : Crossing} {k : State} → Agree c k → Agree (settle s add c) (rested s k)
+unfolding settle rested
+settled-agree s add {c} {k} a = record {
+  kiosk = a .kiosk;
+  operator = a .operator;
+  countdown = a .countdown;
+  route = a .route;
+  queue = a .queue;
+  unsure = a .unsure;
+  boom = a .boom;
+  lamp = a .lamp;
+  stage = ap (clock-settled s (reason c) (booms-up (s .kind) (boom c))) (a .stage) ∙ settle-clock s (reason c) (booms-up (s .kind) (boom c)) (k .stage) ∙ same (reason-stands a) (same-up a (s .kind));
+}
+  where
+    same : {r r′ u u′ : Bool} → r ≡ r′ → u ≡ u′ → numbers (settled s r u (k .stage)) ≡ numbers (settled s r′ u′ (k .stage))
+    same q v = rw (q, v)

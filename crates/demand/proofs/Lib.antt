@@ -1,10 +1,12 @@
 pub mod Lists
 pub mod Unbroken
+pub mod Stages
 pub mod Timing
 pub mod Agree
 pub mod Account
 pub mod Each
 pub mod Answers
 pub mod Run
+pub mod Closing
 pub mod Shown
 pub mod Demand

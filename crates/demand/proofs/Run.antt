@@ -89,7 +89,7 @@ module _ (p : Plant) where
               let l : i < q .site .n = rw n b in
               let same = same-entry i in
               let c = crossing-after q x t i (omega (arith, g .count)) in
-              rw (now, c, same) (touched p es x i (crossing q i) (k .each i b) t (rw same at (g .used i l .phase)) (few i l) (own i));
+              rw (now, c, same) (touched p es x i (crossing q i) (k .each i b) t (few i l) (own i));
           sum = sum-same (p .site .n) _ (λ i. known p i es .written + written-at (entry p i) i (crossing q i) e) (λ i b. written-touched p es x i (crossing q i) (k .each i b) t (few i (rw n b)) (own i))
               ∙ sum-add (p .site .n) (λ i. known p i es .written) (λ i. written-at (entry p i) i (crossing q i) e)
               ∙ omega (arith, carries, taken-written q x t g, ap (λ y. sum-below (y .n) (λ i. written-at (getD (y .entries) i no-entry) i (crossing q i) e)) (k .site), k .sum);

@@ -1,20 +1,18 @@
 -- What the panel shows of a crossing: a signal that lets a train pass, an order to the booms, and normal position after a tick.
 use mathlib.Core.Path.{_≡_, refl}
-use mathlib.Core.Logic.{_⊎_, inl, inr, ⊎-elim}
+use mathlib.Core.Logic.{_⊎_, ⊎-elim}
 use mathlib.Core.Bool.{Bool, true, false, cond, _||_, and-false}
 use Prim.Native.Nat.{_+_, _%_, _<_}
 use native.Mathlib.Omega.{arith}
 use lib.Dec.{eqb, ltb}
-use borrow.Author.Tests.{eqb-true}
 use Rattle.machine.specs.Common.{bit}
 use Rattle.machine.specs.declared.Entry.{Entry}
 use Rattle.machine.specs.declared.Crossing.{Crossing}
-use Rattle.machine.specs.Plant.{is-on, overdue-ticks, calling, unsure-flag, boom, lamp, kiosk, operator, reason-of, reason, booms-up, normal, secured}
-use Rattle.machine.specs.Effects.{releases, tick}
+use Rattle.machine.specs.Plant.{is-on, overdue-ticks, lights-only, calling, unsure-flag, boom, lamp, kiosk, operator, reason-of, reason, booms-up, normal, secured}
+use Rattle.machine.specs.Effects.{releases, phase-ticked, tick}
 use Rattle.machine.specs.Settling.{phase-settled, settle}
 use Rattle.machine.specs.Panel.{signal, right-down, left-down, released, releases-shown, status}
-use Rattle.machine.proofs.Tools.{by-test, by-cond, neither, or-left-false}
-use Rattle.demand.proofs.Timing.{rests, tick-rests}
+use Rattle.machine.proofs.Tools.{by-test, by-cond, neither}
 
 module _ (s : Entry) (c : Crossing) where
   pub passable-secured : signal s c ≡ 2 → secured s c ≡ true
@@ -26,6 +24,10 @@ module _ (s : Entry) (c : Crossing) where
   unfolding releases-shown released
   released-secured q = by-test (secured s c) (λ t. t) (λ f. absurd (let r = simp (f, and-false) at q in omega arith))
 
+  pub none-released : (secured s c ≡ true → ⊥) → releases-shown s c ≡ 0
+  unfolding releases-shown released
+  none-released q = by-test (secured s c) (λ t. absurd (q t)) (λ f. simp (f, and-false))
+
   -- a tick makes no reason
   tick-reason : reason c ≡ false → reason (tick s c) ≡ false
   unfolding reason tick
@@ -35,10 +37,8 @@ module _ (s : Entry) (c : Crossing) where
       go true = rw (neither (kiosk c || operator c) _ (neither (kiosk c || operator c || _) _ q .0) .0)
       go false = q
 
-  module _ (r : rests (c .phase) ≡ true) where
-    phases : (c .phase ≡ 0) ⊎ (c .phase ≡ 4)
-    phases = by-test (eqb (c .phase) 0) (λ z. inl (eqb-true _ _ z)) (λ z. inr (eqb-true _ _ (or-left-false _ _ z r)))
-
+  -- open or raising
+  module _ (phases : (c .phase ≡ 0) ⊎ (c .phase ≡ 4)) where
     pub right-up : right-down s c ≡ 0
     unfolding right-down
     right-up = ⊎-elim (λ z. rw z (rw and-false)) (λ z. rw z (rw and-false)) phases
@@ -49,8 +49,8 @@ module _ (s : Entry) (c : Crossing) where
 
     -- a tick opens a crossing with no reason and every boom up
     pub opened : c .timer ≡ 0 → reason c ≡ false → booms-up (s .kind) (boom c) ≡ true → normal s (settle s 1 (tick s c)) ≡ true
-    unfolding normal settle tick phase-settled
-    opened z n up = rw (tick-reason n, tick-rests s (c .phase) (c .timer) z, up) (⊎-elim (λ z. rw z) (λ z. rw z) phases)
+    unfolding normal settle tick phase-ticked phase-settled
+    opened z n up = rw (tick-reason n, z, up) (⊎-elim (λ z. rw z) (λ z. rw z) phases)
 
   pub normal-bit : normal s c ≡ true → status s c % 2 ≡ 1
   unfolding status
@@ -62,13 +62,17 @@ module _ (s : Entry) (c : Crossing) where
       odd false true = refl
       odd false false = refl
 
-  -- out of phase 0 the normal bit is clear
-  pub closed-bit : eqb (c .phase) 0 ≡ false → status s c % 2 ≡ 0
-  unfolding status normal
-  closed-bit q = rw q (even (secured s c) (ltb overdue-ticks (c .out)))
+  pub bit-normal : status s c % 2 ≡ 1 → normal s c ≡ true
+  unfolding status
+  bit-normal q = by-test (normal s c) (λ t. t) (λ f. absurd (even (secured s c) (ltb overdue-ticks (c .out)) (rw f at q)))
     where
-      even : (a b : Bool) → (0 + bit a 2 + bit b 4) % 2 ≡ 0
-      even true true = refl
-      even true false = refl
-      even false true = refl
-      even false false = refl
+      even : (a b : Bool) → (0 + bit a 2 + bit b 4) % 2 ≡ 1 → ⊥
+      even true true q = omega arith
+      even true false q = omega arith
+      even false true q = omega arith
+      even false false q = omega arith
+
+  -- with all ordered down, each order that the kind has
+  pub all-ordered : c .phase ≡ 3 → (lights-only (s .kind) ≡ false → right-down s c ≡ 1) × (eqb (s .kind) 4 ≡ true → left-down s c ≡ 1)
+  unfolding right-down left-down
+  all-ordered z = ((λ q. rw (z, q)), (λ q. rw (z, q)))

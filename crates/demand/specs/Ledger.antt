@@ -1,5 +1,5 @@
--- The ledger of a crossing: what the rules of document 01, amended by T-01, make of its taken events, worked out from the list and not read
--- from the plant.
+-- The ledger of a crossing: what the rules of document 01, amended by T-01 and T-06, make of its taken events, worked out from the list and not
+-- read from the plant.
 use mathlib.Core.Bool.{Bool, cond, not, _&&_, _||_}
 use mathlib.Core.List.{List, [], _∷_, _++_}
 use Prim.Native.Nat.{ℕ, _+_, pred}
@@ -9,7 +9,7 @@ use Rattle.machine.specs.declared.Plant.{Plant}
 use Rattle.machine.specs.declared.Event.{Event}
 use Rattle.machine.specs.Events.{Command}
 use Rattle.machine.specs.Step.{step}
-use Rattle.demand.specs.Words.{bit, sum4, some-track, is, is-to, is-at, depends, up}
+use Rattle.demand.specs.Words.{bit, sum4, some-track, is, is-to, is-at, depends, up, all-up}
 
 -- The taken events ---------------------------------------------------------------------------------------------------------------
 -- taken: answered with number 0, whoever sent it (T-04)
@@ -68,9 +68,48 @@ gone q = cond (eqb (q .calling) 0) (record { calling = 0; waiting = pred (q .wai
 unfoldable pub moved : Queue → Queue
 moved q = record { calling = q .calling + q .waiting; waiting = 0 }
 
+-- The stage of a crossing ---------------------------------------------------------------------------------------------------------
+-- open, with the ticks left to motorists (T-06); in warning, or with the right booms of four ordered down, with the ticks to come; with all
+-- ordered down; or raising
+pub data Stage : Type 0 where
+  free : ℕ → Stage
+  warns : ℕ → Stage
+  lowers : ℕ → Stage
+  shut : Stage
+  rises : Stage
+
+-- a tick lowers what is left or to come: F ticks of warning, with four booms G more
+unfoldable pub ticked : Entry → Stage → Stage
+ticked s (free n) = free (pred n)
+ticked s (warns n) = cond (eqb n 1) (cond (eqb (s .kind) 4) (lowers (s .gap)) shut) (warns (pred n))
+ticked s (lowers n) = cond (eqb n 1) shut (lowers (pred n))
+ticked s shut = shut
+ticked s rises = rises
+
+-- no reason keeps it closed: raising, but lights only are open at once, with M ticks left (T-06)
+abbrev pub lifted : Entry → Stage
+lifted s = cond (eqb (s .kind) 1) (free (s .pause)) rises
+
+-- it settles, where a reason stands or not and every boom is last reported up or not: no warning begins while ticks are left, raising that ends
+-- leaves M of them, and a warning given up none (T-06)
+unfoldable pub settled : Entry → Bool → Bool → Stage → Stage
+settled s stands up (free n) = cond (stands && eqb n 0) (warns (s .pre)) (free n)
+settled s stands up (warns n) = cond stands (warns n) (free 0)
+settled s stands up (lowers n) = cond stands (lowers n) (lifted s)
+settled s stands up shut = cond stands shut (lifted s)
+settled s stands up rises = cond up (cond (stands && eqb (s .pause) 0) (warns (s .pre)) (free (s .pause))) rises
+
+-- the ticks left to motorists (T-06)
+abbrev pub ticks-left : Stage → ℕ
+ticks-left (free n) = n
+ticks-left (warns n) = 0
+ticks-left (lowers n) = 0
+ticks-left shut = 0
+ticks-left rises = 0
+
 -- What a crossing is known to hold -----------------------------------------------------------------------------------------------
 -- the queue of each track; 1 where a track is unsure (T-01); the value of the last event that set a route, reported a boom or a lamp, or put
--- a hold on or off; the release countdown; the trains written off
+-- a hold on or off; the release countdown; the trains written off; the stage
 pub record State : Type 0 where
   pub queue : ℕ → Queue
   pub unsure : ℕ → ℕ
@@ -81,10 +120,11 @@ pub record State : Type 0 where
   pub operator : ℕ
   pub countdown : ℕ
   pub written : ℕ
+  pub stage : Stage
 
--- before any event: no trains, routes or holds, no track unsure, every boom up, every lamp whole
+-- before any event: no trains, routes or holds, no track unsure, every boom up, every lamp whole, the road open with no ticks left
 abbrev pub start : State
-start = record { queue = λ t. empty; unsure = λ t. 0; route = λ t. 0; boom = λ b. up; lamp = λ l. 1; kiosk = 0; operator = 0; countdown = 0; written = 0 }
+start = record { queue = λ t. empty; unsure = λ t. 0; route = λ t. 0; boom = λ b. up; lamp = λ l. 1; kiosk = 0; operator = 0; countdown = 0; written = 0; stage = free 0 }
 
 -- the trains of all tracks
 abbrev pub trains : State → ℕ
@@ -129,10 +169,10 @@ countdown-next e n =
     (cond (is 1 e || is-to 3 1 e || is-to 4 1 e || is-to 5 1 e || is-to 6 1 e) 0
     n))
 
--- a hold, a route or a report is what the last event of its code says; the trains that a completed release clears are written off, and so is
--- that of a swept strike-in (T-01)
-unfoldable pub next : Entry → Event → State → State
-next s e k = record {
+-- what an event does before the crossing settles: a hold, a route or a report is what the last event of its code says; the trains that a completed
+-- release clears are written off, and so is that of a swept strike-in (T-01)
+unfoldable pub worked : Entry → Event → State → State
+worked s e k = record {
   queue = queue-next s e k;
   unsure = unsure-next e k;
   route = λ t. cond (is-at 5 t e) (e .value) (k .route t);
@@ -142,9 +182,25 @@ next s e k = record {
   operator = cond (is 4 e) (e .value) (k .operator);
   countdown = countdown-next e (k .countdown);
   written = k .written + bit (completes e k) (trains k) + bit (swept e k) 1;
+  stage = cond (is 0 e) (ticked s (k .stage)) (k .stage);
+}
+
+-- then the crossing settles
+unfoldable pub rested : Entry → State → State
+rested s k = record {
+  queue = k .queue;
+  unsure = k .unsure;
+  route = k .route;
+  boom = k .boom;
+  lamp = k .lamp;
+  kiosk = k .kiosk;
+  operator = k .operator;
+  countdown = k .countdown;
+  written = k .written;
+  stage = settled s (stands k) (all-up (s .kind) (k .boom)) (k .stage);
 }
 
 -- over a log, event by event
 unfoldable pub state : Entry → List Event → State
 state s [] = start
-state s (e ∷ h) = next s e (state s h)
+state s (e ∷ h) = rested s (worked s e (state s h))

@@ -130,5 +130,7 @@ pub fn apply(s: Entry, c: Crossing, e: Event) -> Crossing
     requires { ⌜ Room c e ⌝ }
     ensures { λ r. ⌜ r ≡ settle s 0 (act s c e) ⌝ }
 {
-    settle::settle(s, false, act(s, c, e))
+    let d = act(s, c, e);
+    let next = settle::next_phase(s, d);
+    settle::count_out(s, false, settle::enter(s, next, d))
 }

@@ -5,7 +5,7 @@ use machine::reports;
 ghost use mathlib.Core.Path.{_≡_};
 ghost use Rattle.machine.specs.Common.{all-below};
 ghost use Rattle.machine.specs.Plant.{lamp-flag};
-ghost use Rattle.machine.specs.Range.{report-limit, boom-in, crossing-in, flag-in, phase-in};
+ghost use Rattle.machine.specs.Range.{report-limit, boom-in, crossing-in, flag-in, left-limit, phase-in};
 
 // The highest report of a boom (document 02, T-02); a boom that the crossing lacks stays at 0.
 fn report_limit(present: bool) -> u8
@@ -48,6 +48,13 @@ fn phase_in(s: Entry, phase: u8, timer: u16) -> bool
     }
 }
 
+// The most ticks left to motorists: M in phase 0, otherwise none (document 02, T-06).
+fn left_limit(s: Entry, phase: u8) -> u16
+    ensures { λ r. ⌜ r ≡ left-limit s phase ⌝ }
+{
+    if phase == 0 { s.pause } else { 0 }
+}
+
 // The numbers of a crossing are in their ranges.
 pub fn crossing_in(s: Entry, c: Crossing) -> bool
     ensures { λ r. ⌜ r ≡ crossing-in s c ⌝ }
@@ -61,5 +68,6 @@ pub fn crossing_in(s: Entry, c: Crossing) -> bool
         & ((c.kiosk <= 1) & (c.operator <= 1))
         & (c.countdown <= Crossing::RELEASE)
         & phase_in(s, c.phase, c.timer)
+        & (c.left <= left_limit(s, c.phase))
         & (c.out <= Crossing::OVERDUE + 1)
 }

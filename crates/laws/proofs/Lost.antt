@@ -37,7 +37,7 @@ module _ (s : Entry) (c : Crossing) (b : ℕ) (has : b < boom-count (s .kind)) (
   -- raising waits on it, whatever reason stands
   pub lost-raising : (add : ℕ) → c .phase ≡ 4 → settle s add c .phase ≡ 4
   unfolding settle phase-settled
-  lost-raising add four = ap (λ all-up. phase-settled (s .kind) (reason c) all-up (c .phase)) not-up ∙ rw four
+  lost-raising add four = ap (λ all-up. phase-settled s (reason c) all-up (c .left) (c .phase)) not-up ∙ rw four
 
   -- normal position is not reached
   pub lost-normal : normal s c ≡ false

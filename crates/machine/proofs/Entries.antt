@@ -13,11 +13,13 @@ pub record EntryIn (s : Entry) : Type 0 where
   pub some-pre : 1 ≤ s .pre
   pub pre : s .pre ≤ 180
   pub gap : gap-in (s .kind) (s .gap) ≡ true
+  pub pause : s .pause ≤ 540
 
 pub entry-reads : (s : Entry) → entry-in s ≡ true → EntryIn s
 unfolding entry-in
 entry-reads s q =
-    let g = and-both _ (gap-in (s .kind) (s .gap)) q in
+    let r = and-both _ (leb (s .pause) 540) q in
+    let g = and-both _ (gap-in (s .kind) (s .gap)) (r .0) in
     let f = and-both _ (leb 1 (s .pre) && leb (s .pre) 180) (g .0) in
     let m = and-both _ (ltb (s .mask) (2 ^ s .tracks)) (f .0) in
     let t = and-both (leb 1 (s .kind) && leb (s .kind) 4) (leb 1 (s .tracks) && leb (s .tracks) 4) (m .0) in
@@ -27,6 +29,7 @@ entry-reads s q =
       some-pre = leb-true _ _ (f2 .0);
       pre = leb-true _ _ (f2 .1);
       gap = g .1;
+      pause = leb-true _ _ (r .1);
     }
 
 -- G of four booms is at least 1
@@ -41,18 +44,20 @@ pub at-most-eight : (n : ℕ) → count-in n ≡ true → n ≤ 8
 at-most-eight n q = leb-true n 8 (and-both (leb 1 n) (leb n 8) q .1)
 
 -- an entry by its fields
-pub entry-by : {k t m p g : ℕ} (x : Entry) → k ≡ x .kind → t ≡ x .tracks → m ≡ x .mask → p ≡ x .pre → g ≡ x .gap → record { kind = k; tracks = t; mask = m; pre = p; gap = g } ≡ x
-entry-by x a b c d e = rw (a, b, c, d, e)
+pub entry-by : {k t m p g r : ℕ} (x : Entry) → k ≡ x .kind → t ≡ x .tracks → m ≡ x .mask → p ≡ x .pre → g ≡ x .gap → r ≡ x .pause
+    → record { kind = k; tracks = t; mask = m; pre = p; gap = g; pause = r } ≡ x
+entry-by x a b c d e f = rw (a, b, c, d, e, f)
 
 -- an entry past the last crossing is all zero
 pub zero-entry : (x : Entry) → entry-zero x ≡ true → no-entry ≡ x
 unfolding entry-zero
 zero-entry x q =
-    let g = and-both _ (eqb (x .gap) 0) q in
+    let r = and-both _ (eqb (x .pause) 0) q in
+    let g = and-both _ (eqb (x .gap) 0) (r .0) in
     let p = and-both _ (eqb (x .pre) 0) (g .0) in
     let m = and-both _ (eqb (x .mask) 0) (p .0) in
     let t = and-both (eqb (x .kind) 0) (eqb (x .tracks) 0) (m .0) in
-    entry-by x (sym (eqb-true _ _ (t .0))) (sym (eqb-true _ _ (t .1))) (sym (eqb-true _ _ (m .1))) (sym (eqb-true _ _ (p .1))) (sym (eqb-true _ _ (g .1)))
+    entry-by x (sym (eqb-true _ _ (t .0))) (sym (eqb-true _ _ (t .1))) (sym (eqb-true _ _ (m .1))) (sym (eqb-true _ _ (p .1))) (sym (eqb-true _ _ (g .1))) (sym (eqb-true _ _ (r .1)))
 
 -- so it has kind 0 and no boom
 pub zero-kind : (s : Entry) → entry-zero s ≡ true → s .kind ≡ 0

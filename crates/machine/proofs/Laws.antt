@@ -29,6 +29,7 @@ fresh-used s = record {
   operator = lit≤ tt;
   countdown = lit≤ tt;
   phase = opened refl refl;
+  left = omega arith;
   out = lit≤ tt;
 }
   where
@@ -118,7 +119,7 @@ other-untouched p x i l z o = by-test (eqb (number p x) 0)
     (λ q. rw (taken-answer p x (eqb-true _ _ q)) (getD-tab 8 (λ j. touch (entry p j) j (crossing p j) (x .event)) no-crossing i l ∙ rw (z, o)))
     (λ q. rw (refused-answer p x (eqb-false _ _ q)))
 
--- Lengths: panel 16n, book 1 + 7n ----------------------------------------------------------------------------------------------------
+-- Lengths: panel 16n, book 1 + 9n ----------------------------------------------------------------------------------------------------
 pub panel-length : (p : Plant) → length (panel p) ≡ 16 * p .site .n
 unfolding panel row
 panel-length p = length-concat 16 (λ i. row (p .beat) (entry p i) (crossing p i)) (λ j. refl) (p .site .n)
@@ -131,5 +132,5 @@ pub book-bytes : (s : Site) → length (book s) ≡ book-length (s .n)
 unfolding book first-part second-part
 book-bytes s =
     let a = length-concat 3 (λ i. first-part (setting s i)) (λ j. refl) (s .n) in
-    let b = length-concat 4 (λ i. second-part (setting s i)) (λ j. refl) (s .n) in
+    let b = length-concat 6 (λ i. second-part (setting s i)) (λ j. refl) (s .n) in
     simp length-append (omega arith)

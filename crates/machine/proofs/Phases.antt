@@ -1,14 +1,15 @@
--- The phase and its timer stay in their range under a tick and under settling.
+-- The phase, its timer and the ticks left to motorists stay in their range under a tick and under settling.
 use mathlib.Core.Path.{_≡_, refl}
-use mathlib.Core.Bool.{Bool, true, false, cond}
+use mathlib.Core.Bool.{Bool, true, false, cond, not, _&&_}
 use Prim.Native.Nat.{ℕ, pred, _≤_}
 use native.Mathlib.Omega.{arith}
 use lib.Dec.{eqb}
-use borrow.Author.Tests.{eqb-false}
+use borrow.Author.Tests.{eqb-true, eqb-false}
 use Rattle.machine.specs.Common.{bit}
 use Rattle.machine.specs.Plant.{Entry, lights-only}
+use Rattle.machine.specs.Range.{left-limit}
 use Rattle.machine.specs.Effects.{to-gap, phase-ticked, timer-ticked}
-use Rattle.machine.specs.Settling.{phase-settled, timer-settled}
+use Rattle.machine.specs.Settling.{phase-settled, timer-settled, left-settled}
 use Rattle.machine.proofs.Tools.{by-test, by-cond, and-both}
 use Rattle.machine.proofs.Entries.{EntryIn, some-gap}
 use Rattle.machine.proofs.Ranges.{PhaseIn, opened, warning, right, closed, raising}
@@ -57,13 +58,35 @@ module _ (s : Entry) (g : EntryIn s) where
       (λ _. rw a (opened refl refl))
       (λ q. rw b (raising refl refl q))
 
-  pub phase-settles : (stands up : Bool) {phase timer : ℕ} → PhaseIn s phase timer → Next phase timer (phase-settled (s .kind) stands up phase)
+  -- 0: a warning begins, or it stays
+  waits : (b : Bool) → Next 0 0 (bit b 1)
+  unfolding timer-settled
+  waits true = warning refl (g .some-pre) (omega arith)
+  waits false = opened refl refl
+
+  pub phase-settles : (stands up : Bool) (left : ℕ) {phase timer : ℕ} → PhaseIn s phase timer → Next phase timer (phase-settled s stands up left phase)
   unfolding phase-settled timer-settled
-  phase-settles true up (opened p z) = rw p (warning refl (g .some-pre) (omega arith))
-  phase-settles false up (opened p z) = rw (p, z) (opened refl refl)
-  phase-settles true up (warning p l h) = rw p (warning refl l h)
-  phase-settles false up (warning p l h) = rw p (opened refl refl)
-  phase-settles stands up (right p four l h) = rw p (lowers stands refl refl refl (right refl four l h))
-  phase-settles stands up (closed p z) = rw p (lowers stands refl refl refl (closed refl z))
-  phase-settles stands true {phase} {timer} (raising p z h) = rw p (restarts stands 4 timer refl refl)
-  phase-settles stands false (raising p z h) = rw p (raising refl z h)
+  phase-settles stands up left (opened p z) = rw (p, z) (waits (stands && eqb left 0))
+  phase-settles true up left (warning p l h) = rw p (warning refl l h)
+  phase-settles false up left (warning p l h) = rw p (opened refl refl)
+  phase-settles stands up left (right p four l h) = rw p (lowers stands refl refl refl (right refl four l h))
+  phase-settles stands up left (closed p z) = rw p (lowers stands refl refl refl (closed refl z))
+  phase-settles stands true left {phase} {timer} (raising p z h) = rw p (restarts (stands && eqb (s .pause) 0) 4 timer refl refl)
+  phase-settles stands false left (raising p z h) = rw p (raising refl z h)
+
+  -- no tick is left outside phase 0, and none becomes more
+  pub left-ticks : {phase timer left : ℕ} → PhaseIn s phase timer → left ≤ left-limit s phase → pred left ≤ left-limit s (phase-ticked s phase timer)
+  unfolding phase-ticked
+  left-ticks (opened p z) b = let l = rw p at b in rw (p, z) (omega arith)
+  left-ticks (warning p l h) b = let z = rw p at b in omega arith
+  left-ticks (right p four l h) b = let z = rw p at b in omega arith
+  left-ticks (closed p z) b = let z = rw p at b in omega arith
+  left-ticks (raising p z h) b = let z = rw p at b in omega arith
+
+  pub left-settles : (phase next : ℕ) {left : ℕ} → left ≤ left-limit s phase → left-settled (s .pause) phase next left ≤ left-limit s next
+  unfolding left-settled
+  left-settles phase next {left} b = by-cond (λ x. x ≤ left-limit s next) (eqb next phase)
+      (λ q. rw (eqb-true next phase q) b)
+      (λ _. by-test (eqb next 0)
+      (λ z. rw z (by-cond (λ x. x ≤ s .pause) (not (eqb phase 1)) (λ _. omega arith) (λ _. omega arith)))
+      (λ z. rw z (omega arith)))

@@ -7,7 +7,7 @@ use lib.Dec.{eqb, ltb, leb}
 use borrow.Author.Tests.{eqb-true, leb-true, ltb-true, ltb-false, not-true, eq-eqb, le-leb, lt-ltb, le-ltb}
 use Rattle.machine.specs.Common.{all-below}
 use Rattle.machine.specs.Plant.{Entry, Crossing, Plant, release-ticks, overdue-ticks, full, calling, waiting, route-flag, occupied-flag, unsure-flag, boom, lamp-flag, trains, entry, crossing, dependent, lights-only}
-use Rattle.machine.specs.Range.{entry-in, entry-zero, flag-in, track-zero, track-in, boom-in, phase-in, crossing-in, crossing-zero, place-in, count-in, in-range}
+use Rattle.machine.specs.Range.{entry-in, entry-zero, flag-in, track-zero, track-in, boom-in, phase-in, left-limit, crossing-in, crossing-zero, place-in, count-in, in-range}
 use Rattle.machine.proofs.Tools.{by-test, by-cond, and-both, and-intro, or-right, or-left-false, all-below-intro, all-below-at}
 use Rattle.machine.proofs.Entries.{EntryIn, entry-reads}
 
@@ -109,6 +109,7 @@ pub record CrossingIn (s : Entry) (c : Crossing) : Type 0 where
   pub operator : c .operator ≤ 1
   pub countdown : c .countdown ≤ release-ticks
   pub phase : PhaseIn s (c .phase) (c .timer)
+  pub left : c .left ≤ left-limit s (c .phase)
   pub out : c .out ≤ suc overdue-ticks
 
 module _ (s : Entry) (c : Crossing) where
@@ -116,7 +117,8 @@ module _ (s : Entry) (c : Crossing) where
   unfolding crossing-in
   crossing-reads q =
       let o = and-both _ (leb (c .out) (suc overdue-ticks)) q in
-      let p = and-both _ (phase-in s (c .phase) (c .timer)) (o .0) in
+      let n = and-both _ (leb (c .left) (left-limit s (c .phase))) (o .0) in
+      let p = and-both _ (phase-in s (c .phase) (c .timer)) (n .0) in
       let d = and-both _ (leb (c .countdown) release-ticks) (p .0) in
       let k = and-both _ (flag-in (c .kiosk) && flag-in (c .operator)) (d .0) in
       let f = and-both (flag-in (c .kiosk)) (flag-in (c .operator)) (k .1) in
@@ -130,19 +132,21 @@ module _ (s : Entry) (c : Crossing) where
         operator = leb-true _ _ (f .1);
         countdown = leb-true _ _ (d .1);
         phase = phase-reads s (c .phase) (c .timer) (p .1);
+        left = leb-true _ _ (n .1);
         out = leb-true _ _ (o .1);
       }
 
   pub crossing-tests : CrossingIn s c → crossing-in s c ≡ true
   unfolding crossing-in
   crossing-tests h =
-      and-intro (and-intro (and-intro (and-intro (and-intro (and-intro
+      and-intro (and-intro (and-intro (and-intro (and-intro (and-intro (and-intro
       (all-below-intro 4 (track-in s c) (λ t l. track-tests c t s (h .track t l)))
       (all-below-intro 4 (boom-in s c) (h .boom)))
       (all-below-intro 5 (λ l. flag-in (lamp-flag c l)) (λ l m. le-leb _ _ (h .lamp l m))))
       (and-intro (le-leb _ _ (h .kiosk)) (le-leb _ _ (h .operator))))
       (le-leb _ _ (h .countdown)))
       (phase-tests s (c .phase) (c .timer) (h .phase)))
+      (le-leb _ _ (h .left)))
       (le-leb _ _ (h .out))
 
 -- A record past the last crossing --------------------------------------------------------------------------------------------------
@@ -155,6 +159,7 @@ pub record NoCrossing (c : Crossing) : Type 0 where
   pub countdown : c .countdown ≡ 0
   pub phase : c .phase ≡ 0
   pub timer : c .timer ≡ 0
+  pub left : c .left ≡ 0
   pub out : c .out ≡ 0
 
 module _ (c : Crossing) where
@@ -162,7 +167,8 @@ module _ (c : Crossing) where
   unfolding crossing-zero
   no-crossing-reads q =
       let o = and-both _ (eqb (c .out) 0) q in
-      let i = and-both _ (eqb (c .timer) 0) (o .0) in
+      let n = and-both _ (eqb (c .left) 0) (o .0) in
+      let i = and-both _ (eqb (c .timer) 0) (n .0) in
       let p = and-both _ (eqb (c .phase) 0) (i .0) in
       let d = and-both _ (eqb (c .countdown) 0) (p .0) in
       let h = and-both _ (eqb (c .operator) 0) (d .0) in
@@ -178,18 +184,19 @@ module _ (c : Crossing) where
         countdown = eqb-true _ _ (d .1);
         phase = eqb-true _ _ (p .1);
         timer = eqb-true _ _ (i .1);
+        left = eqb-true _ _ (n .1);
         out = eqb-true _ _ (o .1);
       }
 
   pub no-crossing-tests : NoCrossing c → crossing-zero c ≡ true
   unfolding crossing-zero
   no-crossing-tests h =
-      and-intro (and-intro (and-intro (and-intro (and-intro (and-intro (and-intro (and-intro
+      and-intro (and-intro (and-intro (and-intro (and-intro (and-intro (and-intro (and-intro (and-intro
       (all-below-intro 4 (track-zero c) (λ t m. zero-tests c t (h .track t m)))
       (all-below-intro 4 (λ b. eqb (boom c b) 0) (λ b m. eq-eqb _ _ (h .boom b m))))
       (all-below-intro 5 (λ l. eqb (lamp-flag c l) 0) (λ l m. eq-eqb _ _ (h .lamp l m))))
       (eq-eqb _ _ (h .kiosk))) (eq-eqb _ _ (h .operator)))
-      (eq-eqb _ _ (h .countdown))) (eq-eqb _ _ (h .phase))) (eq-eqb _ _ (h .timer))) (eq-eqb _ _ (h .out))
+      (eq-eqb _ _ (h .countdown))) (eq-eqb _ _ (h .phase))) (eq-eqb _ _ (h .timer))) (eq-eqb _ _ (h .left))) (eq-eqb _ _ (h .out))
 
 -- The plant ------------------------------------------------------------------------------------------------------------------------
 pub record PlantIn (p : Plant) : Type 0 where

@@ -12,14 +12,14 @@ use Rattle.machine.specs.Reports.{lost}
 use Rattle.machine.specs.Range.{in-range, report-limit, boom-in}
 use Rattle.machine.specs.Events.{Event, Command, is, is-at, on-track, place-limit, value-limit, number}
 use Rattle.machine.specs.Effects.{sweeps, calling-after, waiting-after, unsure-after, cancels, act, releases, phase-ticked, timer-ticked, tick}
-use Rattle.machine.specs.Settling.{phase-settled, timer-settled, out-settled, with-phase, settle}
+use Rattle.machine.specs.Settling.{phase-settled, timer-settled, left-settled, out-settled, with-phase, settle}
 use Rattle.machine.specs.Step.{touch, apply, step}
 use Rattle.machine.proofs.Tools.{by-test, by-cond, and-both, getD-tab, each-tab}
 use Rattle.machine.proofs.Trains.{at-place, trains-after}
 use Rattle.machine.proofs.Taken.{Accepted, taken-accepted, taken-crossing, taken-answer, refused-answer}
 use Rattle.machine.proofs.Entries.{EntryIn, zero-kind}
 use Rattle.machine.proofs.Ranges.{Zero, TrackIn, TrackAt, CrossingIn, NoCrossing, PlantIn, plant-reads, plant-tests, entry-of}
-use Rattle.machine.proofs.Phases.{less, phase-ticks, phase-settles}
+use Rattle.machine.proofs.Phases.{less, phase-ticks, phase-settles, left-ticks, left-settles}
 
 -- One crossing --------------------------------------------------------------------------------------------------------------------
 -- what a completed release clears, at track t
@@ -40,7 +40,8 @@ module _ (s : Entry) (g : EntryIn s) where
     kiosk = h .kiosk;
     operator = h .operator;
     countdown = h .countdown;
-    phase = phase-settles s g (reason c) _ (h .phase);
+    phase = phase-settles s g (reason c) _ (c .left) (h .phase);
+    left = left-settles s g (c .phase) _ (h .left);
     out = out-law _ add (c .out) l;
   }
 
@@ -54,6 +55,7 @@ module _ (s : Entry) (g : EntryIn s) where
     operator = h .operator;
     countdown = less (c .countdown) release-ticks (h .countdown);
     phase = phase-ticks s g (h .phase);
+    left = left-ticks s g (h .phase) (h .left);
     out = h .out;
   }
     where
@@ -167,6 +169,7 @@ module _ (s : Entry) (g : EntryIn s) where
       operator = flag 4 (is 4 e) refl (λ q. q) (h .operator);
       countdown = by-cond (λ x. x ≤ release-ticks) (is 7 e) (λ _. omega arith) (λ _. by-cond (λ x. x ≤ release-ticks) (cancels e) (λ _. omega arith) (λ _. h .countdown));
       phase = h .phase;
+      left = h .left;
       out = h .out;
     }
 
@@ -180,14 +183,14 @@ no-reason c h =
     let z3 = h .track 3 (lit< tt) in
     rw (h .kiosk, h .operator, z0 .calling, z1 .calling, z2 .calling, z3 .calling, z0 .unsure, z1 .unsure, z2 .unsure, z3 .unsure)
 
-same-phase : (c : Crossing) {phase timer out : ℕ} → c .phase ≡ phase → c .timer ≡ timer → c .out ≡ out → with-phase c phase timer out ≡ c
-same-phase c p t o = rw (← p, ← t, ← o)
+same-phase : (c : Crossing) {phase timer left out : ℕ} → c .phase ≡ phase → c .timer ≡ timer → c .left ≡ left → c .out ≡ out → with-phase c phase timer left out ≡ c
+same-phase c p t m o = rw (← p, ← t, ← m, ← o)
 
 module _ (s : Entry) (none : s .kind ≡ 0) where
   -- it settles as it is
   pub zero-settles : (c : Crossing) → NoCrossing c → settle s 1 c ≡ c
-  unfolding settle phase-settled timer-settled out-settled booms-up
-  zero-settles c h = simp (no-reason c h, none, h .phase, h .timer, h .boom 0 (lit< tt), h .boom 1 (lit< tt)) (same-phase c (h .phase) (h .timer) (h .out))
+  unfolding settle phase-settled timer-settled left-settled out-settled booms-up
+  zero-settles c h = simp (no-reason c h, none, h .phase, h .timer, h .boom 0 (lit< tt), h .boom 1 (lit< tt)) (same-phase c (h .phase) (h .timer) refl (h .out))
 
   zero-ticks : (c : Crossing) → NoCrossing c → NoCrossing (tick s c)
   unfolding tick phase-ticked timer-ticked
@@ -200,6 +203,7 @@ module _ (s : Entry) (none : s .kind ≡ 0) where
     countdown = rw (h .countdown);
     phase = rw (h .timer) (h .phase);
     timer = rw (h .timer);
+    left = rw (h .left);
     out = h .out;
   }
 

@@ -58,6 +58,7 @@ act s c e = record {
   countdown = cond (is 7 e) release-ticks (cond (cancels e) 0 (c .countdown));
   phase = c .phase;
   timer = c .timer;
+  left = c .left;
   out = c .out;
 }
 
@@ -78,7 +79,7 @@ phase-ticked s phase timer = cond (eqb timer 1) (cond (to-gap s phase) 2 3) phas
 unfoldable pub timer-ticked : Entry → ℕ → ℕ → ℕ
 timer-ticked s phase timer = cond (eqb timer 1) (bit (to-gap s phase) (s .gap)) (pred timer)
 
--- the countdown, then the timer, by 1; a completed release clears the trains and, with T-01, the flags
+-- the countdown, then the timer, then the ticks left to motorists (T-06), by 1; a completed release clears the trains and, with T-01, the flags
 unfoldable pub tick : Entry → Crossing → Crossing
 tick s c = record {
   calling = tab 4 (λ t. cond (releases c) 0 (calling c t));
@@ -93,6 +94,7 @@ tick s c = record {
   countdown = pred (c .countdown);
   phase = phase-ticked s (c .phase) (c .timer);
   timer = timer-ticked s (c .phase) (c .timer);
+  left = pred (c .left);
   out = c .out;
 }
 

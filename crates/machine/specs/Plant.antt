@@ -94,10 +94,10 @@ total c = sum4 (trains c)
 
 -- all zero: an entry past the last crossing
 abbrev pub no-entry : Entry
-no-entry = record { kind = 0; tracks = 0; mask = 0; pre = 0; gap = 0 }
+no-entry = record { kind = 0; tracks = 0; mask = 0; pre = 0; gap = 0; pause = 0 }
 
--- Fresh: no trains, holds, routes or occupation, no track unsure (T-01), booms up, lamps whole, phase 0; a record past the last crossing
--- is all zero
+-- Fresh: no trains, holds, routes or occupation, no track unsure (T-01), booms up, lamps whole, phase 0 with no ticks left to motorists (T-06);
+-- a record past the last crossing is all zero
 abbrev pub fresh-crossing : Bool → Crossing
 fresh-crossing used = record {
   calling = tab 4 (λ t. 0);
@@ -112,6 +112,7 @@ fresh-crossing used = record {
   countdown = 0;
   phase = 0;
   timer = 0;
+  left = 0;
   out = 0;
 }
 

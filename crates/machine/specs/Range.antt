@@ -2,7 +2,7 @@
 use mathlib.Core.Bool.{Bool, cond, not, _&&_, _||_}
 use Prim.Native.Nat.{ℕ, suc, _^_}
 use lib.Dec.{eqb, ltb, leb}
-use Rattle.machine.specs.Common.{all-below}
+use Rattle.machine.specs.Common.{all-below, bit}
 use Rattle.machine.specs.Reports.{lost}
 use Rattle.machine.specs.Plant.{Entry, Crossing, Plant, release-ticks, overdue-ticks, full, calling, waiting, route-flag, occupied-flag, unsure-flag, boom, lamp-flag, trains, entry, crossing, dependent, lights-only, boom-count}
 
@@ -10,7 +10,7 @@ use Rattle.machine.specs.Plant.{Entry, Crossing, Plant, release-ticks, o
 abbrev pub gap-in : ℕ → ℕ → Bool
 gap-in kind gap = cond (eqb kind 4) (leb 1 gap && leb gap 90) (eqb gap 0)
 
--- Kind 1 to 4; tracks 1 to 4; no mask bit at or above the track count; F 1 to 180; G
+-- Kind 1 to 4; tracks 1 to 4; no mask bit at or above the track count; F 1 to 180; G; M 0 to 540 (T-06)
 unfoldable pub entry-in : Entry → Bool
 entry-in s =
     leb 1 (s .kind) && leb (s .kind) 4
@@ -18,10 +18,11 @@ entry-in s =
     && ltb (s .mask) (2 ^ s .tracks)
     && (leb 1 (s .pre) && leb (s .pre) 180)
     && gap-in (s .kind) (s .gap)
+    && leb (s .pause) 540
 
 -- an entry past n is all zero
 unfoldable pub entry-zero : Entry → Bool
-entry-zero s = eqb (s .kind) 0 && eqb (s .tracks) 0 && eqb (s .mask) 0 && eqb (s .pre) 0 && eqb (s .gap) 0
+entry-zero s = eqb (s .kind) 0 && eqb (s .tracks) 0 && eqb (s .mask) 0 && eqb (s .pre) 0 && eqb (s .gap) 0 && eqb (s .pause) 0
 
 -- a flag is 0 or 1
 abbrev pub flag-in : ℕ → Bool
@@ -55,6 +56,10 @@ phase-in s phase timer =
     (cond (eqb phase 2) (eqb (s .kind) 4 && (leb 1 timer && leb timer (s .gap)))
     (eqb timer 0 && (eqb phase 0 || eqb phase 3 || (eqb phase 4 && not (lights-only (s .kind))))))
 
+-- ticks left to motorists (T-06) are at most M, 0 outside phase 0
+abbrev pub left-limit : Entry → ℕ → ℕ
+left-limit s phase = bit (eqb phase 0) (s .pause)
+
 -- the numbers of a crossing
 unfoldable pub crossing-in : Entry → Crossing → Bool
 crossing-in s c =
@@ -64,6 +69,7 @@ crossing-in s c =
     && (flag-in (c .kiosk) && flag-in (c .operator))
     && leb (c .countdown) release-ticks
     && phase-in s (c .phase) (c .timer)
+    && leb (c .left) (left-limit s (c .phase))
     && leb (c .out) (suc overdue-ticks)
 
 -- a record past n is all zero
@@ -73,7 +79,7 @@ crossing-zero c =
     && all-below 4 (λ b. eqb (boom c b) 0)
     && all-below 5 (λ l. eqb (lamp-flag c l) 0)
     && eqb (c .kiosk) 0 && eqb (c .operator) 0
-    && eqb (c .countdown) 0 && eqb (c .phase) 0 && eqb (c .timer) 0 && eqb (c .out) 0
+    && eqb (c .countdown) 0 && eqb (c .phase) 0 && eqb (c .timer) 0 && eqb (c .left) 0 && eqb (c .out) 0
 
 -- the entry and the record at place i of n
 unfoldable pub place-in : ℕ → ℕ → Entry → Crossing → Bool

@@ -14,16 +14,16 @@ use Rattle.machine.specs.Range.{entry-in, entry-zero, count-in}
 abbrev pub book-size : List ℕ → ℕ
 book-size b = byte b 0
 
--- length 1 + 7n
+-- length 1 + 9n (T-06)
 abbrev pub book-length : ℕ → ℕ
-book-length n = 1 + 7 * n
+book-length n = 1 + 9 * n
 
--- entry i: its three bytes of the first array, its four of the second
+-- entry i: its three bytes of the first array, its six of the second (T-06)
 unfoldable pub book-entry : List ℕ → ℕ → Entry
 book-entry b i =
     let first = 1 + 3 * i in
-    let second = 1 + 3 * book-size b + 4 * i in
-    record { kind = byte b first; tracks = byte b (first + 1); mask = byte b (first + 2); pre = word b second; gap = word b (second + 2) }
+    let second = 1 + 3 * book-size b + 6 * i in
+    record { kind = byte b first; tracks = byte b (first + 1); mask = byte b (first + 2); pre = word b second; gap = word b (second + 2); pause = word b (second + 4) }
 
 -- the settings of a book: entries past n are zero
 unfoldable pub book-site : List ℕ → Site
@@ -54,9 +54,9 @@ setting s i = getD (s .entries) i no-entry
 unfoldable pub first-part : Entry → List ℕ
 first-part x = x .kind ∷ x .tracks ∷ x .mask ∷ []
 
--- Second array, 4 bytes each: F and G, 16 bits, low byte first
+-- Second array, 6 bytes each: F, G and M (T-06), 16 bits, low byte first
 unfoldable pub second-part : Entry → List ℕ
-second-part x = low (x .pre) ∷ high (x .pre) ∷ low (x .gap) ∷ high (x .gap) ∷ []
+second-part x = low (x .pre) ∷ high (x .pre) ∷ low (x .gap) ∷ high (x .gap) ∷ low (x .pause) ∷ high (x .pause) ∷ []
 
 -- n, then the two parallel arrays of n entries
 unfoldable pub book : Site → List ℕ

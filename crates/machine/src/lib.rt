@@ -7,7 +7,8 @@ pub mod senders;
 ghost use mathlib.Core.Path.{_≡_};
 ghost use Rattle.machine.specs.Plant.{fresh-crossing, fresh-plant};
 
-// The settings of one crossing: kind 1 to 4, tracks 1 to 4, the mask of dependent tracks, F and G in ticks.
+// The settings of one crossing: kind 1 to 4, tracks 1 to 4, the mask of dependent tracks; in ticks F, G and M, the time for
+// motorists between closures (document 02, T-06).
 #[repr(C)]
 pub struct Entry {
     pub kind: u8,
@@ -15,6 +16,7 @@ pub struct Entry {
     pub mask: u8,
     pub pre: u16,
     pub gap: u16,
+    pub pause: u16,
 }
 
 // The settings of a plant: n crossings, the entries past n all zero.
@@ -30,6 +32,7 @@ pub struct Site {
 // Booms: up, moving, down or position lost (document 02, T-02), the numbers of mod reports.
 // Lamps: road white, road red, train signal red, train signal white, flasher.
 // Phases: 0 open, 1 warning, 2 right booms ordered down, 3 all ordered down, 4 raising.
+// Left: the ticks left to motorists before a warning may begin (document 02, T-06). Out: the ticks out of normal.
 #[repr(C)]
 pub struct Crossing {
     pub calling: [u8; 4],
@@ -44,6 +47,7 @@ pub struct Crossing {
     pub countdown: u16,
     pub phase: u8,
     pub timer: u16,
+    pub left: u16,
     pub out: u16,
 }
 
@@ -130,6 +134,7 @@ impl Crossing {
             countdown: 0,
             phase: 0,
             timer: 0,
+            left: 0,
             out: 0,
         }
     }

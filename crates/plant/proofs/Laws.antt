@@ -37,6 +37,7 @@ unread = record {
   countdown = 0;
   phase = 0;
   timer = 0;
+  left = 0;
   out = 0;
 }
 

@@ -28,7 +28,7 @@ each-tracks (x ∷ l) (u ∷ us) (suc i) p = each-tracks l us i (p .1)
 
 module _ (s : Entry) (c : Crossing) (h : NoCrossing c) where
   pub past-stays : s .kind ≡ 0 → Tracks c → settle s 1 (tick s c) ≡ c
-  past-stays none z = rw (still-ticks s c (h .countdown) (h .timer) z) (zero-settles s none c h)
+  past-stays none z = rw (still-ticks s c (h .countdown) (h .timer) (h .left) z) (zero-settles s none c h)
 
   pub past-written : bit (releases c) (total c) ≡ 0
   past-written = rw (h .countdown)

@@ -40,13 +40,14 @@ pub fn entry_in(s: Entry) -> bool
         & tracks_in(s.tracks, s.mask)
         & ((1 <= s.pre) & (s.pre <= 180))
         & gap_in(s.kind, s.gap)
+        & (s.pause <= 540)
 }
 
 // An entry past the last crossing: all zero.
 pub fn entry_zero(s: Entry) -> bool
     ensures { λ r. ⌜ r ≡ entry-zero s ⌝ }
 {
-    (s.kind == 0) & (s.tracks == 0) & (s.mask == 0) & (s.pre == 0) & (s.gap == 0)
+    (s.kind == 0) & (s.tracks == 0) & (s.mask == 0) & (s.pre == 0) & (s.gap == 0) & (s.pause == 0)
 }
 
 // n is 1 to 8.

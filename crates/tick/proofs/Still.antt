@@ -13,8 +13,8 @@ pub record Tracks (c : Crossing) : Type 0 where
   pub waiting : length (c .waiting) ≡ 4
   pub unsure : length (c .unsure) ≡ 4
 
-abbrev counted : Crossing → ℕ → ℕ → Crossing
-counted c countdown timer = record {
+abbrev counted : Crossing → ℕ → ℕ → ℕ → Crossing
+counted c countdown timer left = record {
   calling = c .calling;
   waiting = c .waiting;
   route = c .route;
@@ -27,13 +27,14 @@ counted c countdown timer = record {
   countdown = countdown;
   phase = c .phase;
   timer = timer;
+  left = left;
   out = c .out;
 }
 
-same-counts : (c : Crossing) {countdown timer : ℕ} → c .countdown ≡ countdown → c .timer ≡ timer → counted c countdown timer ≡ c
-same-counts c d t = rw (← d, ← t)
+same-counts : (c : Crossing) {countdown timer left : ℕ} → c .countdown ≡ countdown → c .timer ≡ timer → c .left ≡ left → counted c countdown timer left ≡ c
+same-counts c d t m = rw (← d, ← t, ← m)
 
--- where neither the countdown nor the timer runs, a tick leaves the crossing to settle as it is
-pub still-ticks : (s : Entry) (c : Crossing) → c .countdown ≡ 0 → c .timer ≡ 0 → Tracks c → tick s c ≡ c
+-- where neither the countdown nor the timer runs and no ticks are left to motorists, a tick leaves the crossing to settle as it is
+pub still-ticks : (s : Entry) (c : Crossing) → c .countdown ≡ 0 → c .timer ≡ 0 → c .left ≡ 0 → Tracks c → tick s c ≡ c
 unfolding tick phase-ticked timer-ticked
-still-ticks s c d t z = simp (d, t, tab-getD 4 (c .calling) 0 (z .calling), tab-getD 4 (c .waiting) 0 (z .waiting), tab-getD 4 (c .unsure) 0 (z .unsure)) (same-counts c d t)
+still-ticks s c d t m z = simp (d, t, m, tab-getD 4 (c .calling) 0 (z .calling), tab-getD 4 (c .waiting) 0 (z .waiting), tab-getD 4 (c .unsure) 0 (z .unsure)) (same-counts c d t m)

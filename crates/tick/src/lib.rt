@@ -47,18 +47,20 @@ fn lowered(count: u16) -> u16
     if 0 < count { count - 1 } else { 0 }
 }
 
-// The countdown, then the timer, by 1; a countdown that reaches 0 clears the trains of the crossing, and no track stays
-// unsure (document 02, T-01).
+// The countdown, then the timer, then the ticks left to motorists (document 02, T-06), by 1; a countdown that reaches 0 clears
+// the trains of the crossing, and no track stays unsure (T-01).
 fn run_down(s: Entry, c: Crossing) -> Crossing
     ensures { λ r. ⌜ r ≡ tick s c ⌝ }
 {
     let phase = phase_ticked(s, c.phase, c.timer);
     let timer = timer_ticked(s, c.phase, c.timer);
     let countdown = lowered(c.countdown);
+    let left = lowered(c.left);
     let releases = c.countdown == 1;
     let mut d = c;
     d.phase = phase;
     d.timer = timer;
+    d.left = left;
     d.countdown = countdown;
     if releases {
         d.calling = [0; 4];
@@ -99,21 +101,24 @@ fn written(c: Crossing) -> u32
     0
 }
 
-// One crossing's tick: it runs down and settles. Mostly neither countdown nor timer runs.
+// One crossing's tick: it runs down and settles. Mostly neither countdown nor timer runs, no ticks are left to motorists, and the
+// phase stays: then the ticks out of normal alone may change.
 pub fn tick(s: Entry, c: Crossing) -> Ticked
     ensures { λ r. ⌜ r ≡ ticked-crossing s c ⌝ }
     ensures { λ r. ⌜ r .written ≤ 2040 ⌝ }
 {
-    let still = (c.countdown == 0) & (c.timer == 0);
-    if still {
-        let crossing = settle::settle(s, true, c);
+    let still = (c.countdown == 0) & (c.timer == 0) & (c.left == 0);
+    if still & (settle::next_phase(s, c) == c.phase) {
+        let crossing = settle::count_out(s, true, c);
         return Ticked {
             crossing,
             written: 0,
         };
     }
     let off = written(c);
-    let crossing = settle::settle(s, true, run_down(s, c));
+    let d = run_down(s, c);
+    let next = settle::next_phase(s, d);
+    let crossing = settle::count_out(s, true, settle::enter(s, next, d));
     Ticked {
         crossing,
         written: off,

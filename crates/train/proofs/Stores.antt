@@ -116,6 +116,7 @@ module _ (s : Entry) (c : Crossing) (e : Event) where
     countdown = cond (is 7 e) release-ticks (cond (cancels e) 0 (c .countdown));
     phase = c .phase;
     timer = c .timer;
+    left = c .left;
     out = c .out;
   }
 
@@ -146,6 +147,7 @@ module _ (s : Entry) (c : Crossing) (e : Event) where
     countdown = c .countdown;
     phase = c .phase;
     timer = c .timer;
+    left = c .left;
     out = c .out;
   }
 
@@ -168,6 +170,7 @@ module _ (s : Entry) (c : Crossing) (e : Event) where
     countdown = 0;
     phase = c .phase;
     timer = c .timer;
+    left = c .left;
     out = c .out;
   }
 

@@ -39,5 +39,6 @@ pub fn crossing_zero(c: Crossing) -> bool
         & (c.countdown == 0)
         & (c.phase == 0)
         & (c.timer == 0)
+        & (c.left == 0)
         & (c.out == 0)
 }

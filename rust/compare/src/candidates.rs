@@ -46,7 +46,7 @@ fn write_candidates(site: &Site, frame: &[u8]) -> Vec<Case> {
     let case = |site: Site, frame: Vec<u8>| Case::Write { site, frame };
     let mut list = Vec::new();
     for i in can_go(site) {
-        let len = frame.len().saturating_sub(7);
+        let len = frame.len().saturating_sub(9);
         list.push(case(site_without(site, i), vec![0; len]));
     }
     list.extend(shorter_frames(frame).into_iter().map(|f| case(*site, f)));

@@ -50,7 +50,8 @@ pub enum Case {
 }
 
 impl Case {
-    /// Case `index` under `seed`. Senders have random numbers of their own.
+    /// Case `index` under `seed`. Senders and the time for motorists have random numbers of their
+    /// own.
     pub fn make(seed: u64, index: u64) -> Case {
         let rng = &mut Rng::of_case(seed, index);
         let senders = &mut Senders::of_case(seed, index);
@@ -94,7 +95,7 @@ fn read_case(rng: &mut Rng) -> Case {
     let book = match rng.below(4) {
         0 => book(rng),
         _ => {
-            let damage = rng.pick(&BookDamage::ALL);
+            let damage = BookDamage::any(rng);
             damaged_book(rng, damage)
         }
     };
@@ -102,11 +103,10 @@ fn read_case(rng: &mut Rng) -> Case {
 }
 
 fn write_case(rng: &mut Rng) -> Case {
-    let settings = &Spoil::ALL[..=Spoil::EntryPastGap as usize];
     let site = match rng.flag() {
         true => site(rng),
         false => {
-            let spoil = rng.pick(settings);
+            let spoil = Spoil::of_settings(rng);
             spoilt_plant(rng, spoil).site
         }
     };
@@ -118,7 +118,7 @@ fn write_case(rng: &mut Rng) -> Case {
 fn any_plant(rng: &mut Rng) -> Plant {
     match rng.below(5) {
         0 => {
-            let spoil = rng.pick(Spoil::ALL);
+            let spoil = Spoil::any(rng);
             spoilt_plant(rng, spoil)
         }
         _ => plant(rng),

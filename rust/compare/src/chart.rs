@@ -1,5 +1,5 @@
-//! The chart rows of document 01 that carry no star, one of them as document 02, T-01, has it,
-//! played on an engine.
+//! The chart rows of document 01 that carry no star, one of them as document 02, T-01, has it, and
+//! a row for document 02, T-06, played on an engine.
 
 use crate::{Command, Engine};
 use engine::{number, sender, Plant};
@@ -7,10 +7,11 @@ use gen::book_bytes;
 
 const TICK: [u8; 4] = [0, 0, 0, 0];
 const STRIKE_IN: [u8; 4] = [1, 0, 0, 0];
+const PASSAGE: [u8; 4] = [2, 0, 0, 0];
 const RELEASE: [u8; 4] = [7, 0, 0, 0];
 
-/// One crossing of a kind, one track by this mask, F 2 and for kind 4 G 1.
-fn fresh(engine: &dyn Engine, kind: u8, mask: u8) -> Plant {
+/// One crossing of a kind, one track by this mask, F 2, for kind 4 G 1, and this M.
+fn fresh(engine: &dyn Engine, kind: u8, mask: u8, pause: u16) -> Plant {
     let mut site = engine::Site::ZERO;
     site.n = 1;
     site.entries[0] = engine::Entry {
@@ -19,6 +20,7 @@ fn fresh(engine: &dyn Engine, kind: u8, mask: u8) -> Plant {
         mask,
         pre: 2,
         gap: u16::from(kind == 4),
+        pause,
     };
     engine.read_book(&book_bytes(&site)).1
 }
@@ -86,7 +88,7 @@ fn swept(engine: &dyn Engine, kind: u8, track: &Track) -> bool {
     let Track {
         calling, waiting, ..
     } = *track;
-    let p = &mut fresh(engine, kind, track.mask);
+    let p = &mut fresh(engine, kind, track.mask, 0);
     let full = track.first.iter().all(|e| takes(engine, p, *e, 1, 0))
         && takes(engine, p, STRIKE_IN, 255, 0)
         && holds(p, calling, waiting, 0, track.phase);
@@ -114,13 +116,40 @@ fn overdue(engine: &dyn Engine, plant: &Plant) -> Option<bool> {
 
 /// After a strike-in, 900 ticks leave bit 4 clear, 901 set it.
 fn long_out(engine: &dyn Engine, kind: u8) -> bool {
-    let p = &mut fresh(engine, kind, 0);
+    let p = &mut fresh(engine, kind, 0, 0);
     let ticked = takes(engine, p, STRIKE_IN, 1, 0) && takes(engine, p, TICK, 900, 0);
     let clear = overdue(engine, p) == Some(false);
     ticked && clear && takes(engine, p, TICK, 1, 0) && overdue(engine, p) == Some(true)
 }
 
-/// Both rows for every kind; the rows that do not hold, in words.
+/// The ticks left to motorists, and the phase.
+fn leaves(plant: &Plant, left: u16, phase: u8) -> bool {
+    (plant.crossings[0].left, plant.crossings[0].phase) == (left, phase)
+}
+
+/// M 3: a train that calls after a closure waits three ticks for its warning, and M + F + G for all
+/// to be ordered down. Booms stay up throughout.
+fn motorists(engine: &dyn Engine, kind: u8) -> bool {
+    let p = &mut fresh(engine, kind, 0, 3);
+    let close = if kind == 4 { 3 } else { 2 };
+    let closed = takes(engine, p, STRIKE_IN, 1, 0)
+        && takes(engine, p, TICK, close, 0)
+        && leaves(p, 0, 3)
+        && takes(engine, p, PASSAGE, 1, 0);
+    let waits = takes(engine, p, STRIKE_IN, 1, 0)
+        && leaves(p, 3, 0)
+        && takes(engine, p, TICK, 2, 0)
+        && leaves(p, 1, 0)
+        && takes(engine, p, TICK, 1, 0)
+        && leaves(p, 0, 1);
+    let again = takes(engine, p, TICK, close - 1, 0)
+        && !leaves(p, 0, 3)
+        && takes(engine, p, TICK, 1, 0)
+        && leaves(p, 0, 3);
+    closed && waits && again
+}
+
+/// Every row for every kind; the rows that do not hold, in words.
 pub fn failing(engine: &dyn Engine) -> Vec<String> {
     let mut failing = Vec::new();
     for kind in 1..=4 {
@@ -130,6 +159,9 @@ pub fn failing(engine: &dyn Engine) -> Vec<String> {
         }
         if !long_out(engine, kind) {
             failing.push(format!("900 and 901 ticks out of normal, kind {kind}"));
+        }
+        if !motorists(engine, kind) {
+            failing.push(format!("three ticks for motorists, kind {kind}"));
         }
     }
     failing

@@ -70,7 +70,7 @@ impl Pair<'_> {
     fn read(&self, book: &[u8], seen: &mut Coverage) -> Check {
         let (number, plant) = self.first.read_book(book);
         let (other, other_plant) = self.second.read_book(book);
-        seen.call(Call::ReadBook, number);
+        seen.read(book, number);
         same("number", &number, &other)?;
         same_plant(&plant, &other_plant)?;
         if number != 0 {
@@ -89,7 +89,7 @@ impl Pair<'_> {
         let (mut out, mut other_out) = (frame.to_vec(), frame.to_vec());
         let number = self.first.write_book(site, &mut out);
         let other = self.second.write_book(site, &mut other_out);
-        seen.call(Call::WriteBook, number);
+        seen.write(site, number);
         same("number", &number, &other)?;
         same_bytes("book", &out, &other_out)?;
         if number != 0 {

@@ -74,7 +74,7 @@ macro_rules! fields {
 
 macro_rules! entry {
     ($from:expr => $($to:ident)::+) => {
-        fields!($from => $($to)::+ { kind, tracks, mask, pre, gap })
+        fields!($from => $($to)::+ { kind, tracks, mask, pre, gap, pause })
     };
 }
 
@@ -82,7 +82,7 @@ macro_rules! crossing {
     ($from:expr => $($to:ident)::+) => {
         fields!($from => $($to)::+ {
             calling, waiting, route, occupied, unsure, booms, lamps, kiosk, operator, countdown,
-            phase, timer, out
+            phase, timer, left, out
         })
     };
 }

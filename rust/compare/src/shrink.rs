@@ -42,7 +42,8 @@ fn site_weight(site: &Site) -> u64 {
             .map(u64::from)
             .iter()
             .sum::<u64>();
-        small + u64::from(e.pre) + u64::from(e.gap)
+        let times = [e.pre, e.gap, e.pause].map(u64::from);
+        small + times.iter().sum::<u64>()
     };
     u64::from(site.n) * 2000 + site.entries.iter().map(entry).sum::<u64>()
 }
@@ -51,7 +52,7 @@ fn crossing_weight(c: &Crossing) -> u64 {
     let bytes = [c.calling, c.waiting, c.booms, c.route, c.occupied, c.unsure].concat();
     let lamps = c.lamps.map(|whole| whole.abs_diff(1));
     let bytes = bytes.iter().chain(&lamps);
-    let counts = [c.countdown, c.timer, c.out];
+    let counts = [c.countdown, c.timer, c.left, c.out];
     let small = [c.phase, c.kiosk, c.operator];
     bytes.chain(&small).map(|b| u64::from(*b)).sum::<u64>()
         + counts.iter().map(|n| u64::from(*n)).sum::<u64>()

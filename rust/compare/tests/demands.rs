@@ -1,7 +1,9 @@
 //! The train account, the passage rule and the opening tick over generated sessions, with lost
-//! reports in their lists (document 02, T-02), and document 02, T-01, that an unsure track keeps
-//! its crossing out of normal position: with reasons and trains worked out from the list of
-//! events alone, taken from any sender (document 02, T-04).
+//! reports in their lists (document 02, T-02); that an unsure track keeps its crossing out of
+//! normal position (document 02, T-01) but while ticks are left to motorists, that no signal lets
+//! trains pass then, and that a crossing closes in time (document 02, T-06): with reasons, trains
+//! and ticks left worked out from the list of events alone, taken from any sender (document 02,
+//! T-04).
 
 use compare::case::Case;
 use compare::Command;
@@ -19,8 +21,13 @@ struct Account {
     route: [bool; 4],
     holds: [bool; 2],
     countdown: u32,
-    /// Ticks for which a reason has stood unbroken.
+    /// Ticks for which a reason has stood unbroken; and with it every boom up.
     stood: u32,
+    closing: u32,
+    phase: u8,
+    timer: u16,
+    /// Ticks left to motorists.
+    left: u16,
     booms: [u8; 4],
     /// A boom was reported lost.
     lost: bool,
@@ -65,7 +72,7 @@ impl Account {
         }
     }
 
-    fn tick(&mut self) {
+    fn tick(&mut self, entry: &Entry) {
         if self.countdown == 1 {
             let trains = self.calling.iter().chain(&self.waiting);
             self.written_off += trains.sum::<u32>();
@@ -75,6 +82,32 @@ impl Account {
         }
         self.countdown = self.countdown.saturating_sub(1);
         self.stood += 1;
+        self.closing += 1;
+        (self.phase, self.timer) = match (self.phase, self.timer) {
+            (1, 1) if entry.gap > 0 => (2, entry.gap),
+            (1 | 2, 1) => (3, 0),
+            (phase, timer) => (phase, timer.saturating_sub(1)),
+        };
+        self.left = self.left.saturating_sub(1);
+        self.settle(entry);
+    }
+
+    /// Phase, timer and ticks left, with motorists first where raising ends.
+    fn settle(&mut self, entry: &Entry) {
+        let (phase, timer, left) = match (self.phase, self.reason()) {
+            (0, true) if self.left == 0 => (1, entry.pre, 0),
+            (1, false) => (0, 0, 0),
+            (3, false) if entry.kind == 1 => (0, 0, entry.pause),
+            (2 | 3, false) => (4, 0, 0),
+            (4, true) if self.is_up() && entry.pause == 0 => (1, entry.pre, 0),
+            (4, _) if self.is_up() => (0, 0, entry.pause),
+            _ => return,
+        };
+        (self.phase, self.timer, self.left) = (phase, timer, left);
+    }
+
+    fn is_up(&self) -> bool {
+        self.booms == [boom::UP; 4]
     }
 
     fn take(&mut self, entry: &Entry, [code, _, place, value]: [u8; 4]) {
@@ -92,6 +125,7 @@ impl Account {
         if (3..=6).contains(&code) && value == 1 {
             self.countdown = 0;
         }
+        self.settle(entry);
     }
 
     fn report(&mut self, boom: usize, value: u8) {
@@ -114,13 +148,42 @@ impl Account {
 fn play(accounts: &mut [Account; 8], site: &Site, e: [u8; 4]) {
     let n = usize::from(site.n);
     if e[0] == 0 {
-        accounts[..n].iter_mut().for_each(Account::tick);
+        let used = accounts[..n].iter_mut().zip(&site.entries);
+        used.for_each(|(account, entry)| account.tick(entry));
     } else {
         let c = usize::from(e[1]);
         accounts[c].take(&site.entries[c], e);
     }
-    for account in accounts.iter_mut().filter(|a| !a.reason()) {
-        account.stood = 0;
+    for account in accounts.iter_mut() {
+        let reason = account.reason();
+        account.stood *= u32::from(reason);
+        account.closing *= u32::from(reason && account.is_up());
+    }
+}
+
+/// What document 02, T-06, says of one crossing after the list.
+fn motorists(account: &Account, plant: &Plant, i: usize, panel: &[u8], met: &mut Met) {
+    let entry = &plant.site.entries[i];
+    assert_eq!(plant.crossings[i].left, account.left);
+    let normal = panel[9] & 1 == 1;
+    if account.is_unsure() && normal {
+        assert!(account.left > 0);
+        met.marked_normal += 1;
+    }
+    if account.left > 0 {
+        assert!(panel[6] != 2 && panel[8] == 0);
+        met.left += 1;
+    }
+    let due = u32::from(entry.pause + entry.pre + entry.gap);
+    let down = panel[10] == 3;
+    if account.closing > due {
+        let ordered = [entry.kind > 1, entry.kind == 4].map(u8::from);
+        assert!(down && panel[4..6] == ordered);
+        met.in_time += 1;
+    }
+    // From a list M + F + G ticks can be needed, and one fewer is not enough.
+    if entry.pause > 0 && account.closing + 1 == due && !down {
+        met.at_the_last += 1;
     }
 }
 
@@ -131,9 +194,6 @@ fn hold(account: &Account, plant: &Plant, i: usize, panel: &[u8]) -> bool {
     let there: u32 = trains.map(|t| u32::from(*t)).sum();
     let gone = account.passed + account.written_off;
     assert_eq!(account.struck_in, gone + there);
-    if account.is_unsure() {
-        assert_eq!(panel[9] & 1, 0);
-    }
     let passes = panel[6] == 2 || panel[8] != 0;
     if passes {
         assert!(account.reason() && account.closed(entry.kind) && !account.red_dead);
@@ -141,7 +201,7 @@ fn hold(account: &Account, plant: &Plant, i: usize, panel: &[u8]) -> bool {
     }
     if !account.reason() {
         assert_eq!(panel[4..6], [0, 0]);
-        if account.booms == [boom::UP; 4] {
+        if account.is_up() {
             let mut after = *plant;
             assert_eq!(event(&mut after, sender::DETECTION, [0; 4]).0, 0);
             let mut panel = vec![0; panel_len(plant.site.n)];
@@ -158,6 +218,12 @@ fn hold(account: &Account, plant: &Plant, i: usize, panel: &[u8]) -> bool {
 struct Met {
     after_lost: [u32; 5],
     refused: u32,
+    /// Of document 02, T-06: how often ticks were left, with a marked crossing in normal position;
+    /// how often all was down in time, and not before the last tick of it.
+    left: u32,
+    marked_normal: u32,
+    in_time: u32,
+    at_the_last: u32,
 }
 
 /// The list as it is sent.
@@ -185,6 +251,7 @@ fn session(site: &Site, commands: &[Command], met: &mut Met) {
         answered += written_off;
         assert_eq!(draw(&plant, sender::DETECTION, &mut panel), 0);
         for (i, bytes) in panel.chunks_exact(PANEL).enumerate() {
+            motorists(&accounts[i], &plant, i, bytes, met);
             if hold(&accounts[i], &plant, i, bytes) && accounts[i].lost {
                 met.after_lost[usize::from(site.entries[i].kind)] += 1;
             }
@@ -205,4 +272,6 @@ fn the_parts_hold_after_every_event() {
     }
     assert!(met.after_lost[2..].iter().all(|count| *count > 0));
     assert!(met.refused > 1000);
+    assert!(met.left > 1000 && met.in_time > 1000);
+    assert!(met.marked_normal > 0 && met.at_the_last > 0);
 }

@@ -13,16 +13,17 @@ use gen::{flags, Coverage};
 const CASES: u64 = 10_000;
 const SESSIONS: u64 = 400;
 
-/// Faults that no list of events from a fresh plant can show: in the lent frames, in the
-/// order of refusals of a book, in spoilt plants, a repeated hold, since a hold stands in the
-/// way of a running countdown, and normal position with an unsure track, which is never reached.
-const NOT_FROM_FRESH: [&str; 39] = [
+/// Faults that no list of events from a fresh plant can show: in the lent frames, in books that are
+/// refused, in spoilt plants, and a repeated hold, since a hold stands in the way of a running
+/// countdown.
+const NOT_FROM_FRESH: [&str; 45] = [
     "book_any_gap",
     "book_frame_first",
     "book_length_first",
+    "book_old_length",
     "book_past_n",
+    "book_pause_541",
     "countdown_repeated_hold",
-    "normal_not_unsure",
     "panel_draw_refused",
     "preview_clears_spoilt",
     "preview_clears_wrong_frame",
@@ -45,7 +46,12 @@ const NOT_FROM_FRESH: [&str; 39] = [
     "range_lacking_boom",
     "range_lacking_boom_lost",
     "range_lamps_past_n",
+    "range_left",
+    "range_left_by_540",
+    "range_left_out_of_phase_0",
+    "range_left_past_n",
     "range_out",
+    "range_pause_past_n",
     "range_report_4",
     "range_unsure_above_1",
     "range_unsure_lacking",

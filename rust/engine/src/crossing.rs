@@ -51,6 +51,13 @@ fn go(record: &mut Crossing, phase: u8, timer: u16) {
     record.timer = timer;
 }
 
+/// Opens after a closure: the time for motorists begins (document 02, T-06).
+#[inline]
+fn open(record: &mut Crossing, entry: &Entry) {
+    go(record, phase::OPEN, 0);
+    record.left = entry.pause;
+}
+
 /// Lowers a running countdown; at its end clears all trains and gives their number. No track
 /// is unsure any more, which writes nothing off (document 02, T-01).
 #[inline]
@@ -86,20 +93,27 @@ pub fn run_timer(record: &mut Crossing, entry: &Entry) {
     }
 }
 
-/// One step by the phase on entry. Raising waits on a lost boom (document 02, T-02).
+/// Lowers the ticks left to motorists (document 02, T-06).
+#[inline]
+pub fn run_pause(record: &mut Crossing) {
+    record.left = record.left.saturating_sub(1);
+}
+
+/// One step by the phase on entry. Raising waits on a lost boom (document 02, T-02), and a warning
+/// on the ticks left to motorists (document 02, T-06).
 #[inline]
 pub fn settle(record: &mut Crossing, entry: &Entry) {
     let reason = has_reason(record);
     match record.phase {
-        phase::OPEN if reason => go(record, phase::WARNING, entry.pre),
+        phase::OPEN if reason && record.left == 0 => go(record, phase::WARNING, entry.pre),
         phase::WARNING if !reason => go(record, phase::OPEN, 0),
         phase::RIGHT_DOWN | phase::ALL_DOWN if !reason => match entry.kind {
-            1 => go(record, phase::OPEN, 0),
+            1 => open(record, entry),
             _ => go(record, phase::RAISING, 0),
         },
-        phase::RAISING if booms_up(record) => match reason {
+        phase::RAISING if booms_up(record) => match reason && entry.pause == 0 {
             true => go(record, phase::WARNING, entry.pre),
-            false => go(record, phase::OPEN, 0),
+            false => open(record, entry),
         },
         _ => {}
     }

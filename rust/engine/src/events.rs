@@ -1,6 +1,6 @@
 //! Events: four bytes of code, crossing, place, value.
 
-use super::crossing::{count_down, count_out, is_held, run_timer, settle};
+use super::crossing::{count_down, count_out, is_held, run_pause, run_timer, settle};
 use super::range::in_range;
 use super::rights::Source;
 use super::types::{boom, code, number, Crossing, Entry, Plant, Site};
@@ -71,6 +71,7 @@ fn tick(plant: &mut Plant) -> u32 {
     for (record, entry) in plant.crossings[..n].iter_mut().zip(&plant.site.entries) {
         written_off += count_down(record);
         run_timer(record, entry);
+        run_pause(record);
         settle(record, entry);
         count_out(record, true);
     }

@@ -4,6 +4,7 @@ use super::types::{boom, phase, Crossing, Entry, Plant, Site};
 
 const MAX_PRE: u16 = 180;
 const MAX_GAP: u16 = 90;
+const MAX_PAUSE: u16 = 540;
 const MAX_COUNTDOWN: u16 = 270;
 const MAX_OUT: u16 = 901;
 const MAX_TRAINS: u16 = 255;
@@ -19,6 +20,7 @@ fn entry_in_range(entry: &Entry) -> bool {
         && entry.mask >> entry.tracks == 0
         && (1..=MAX_PRE).contains(&entry.pre)
         && gap
+        && entry.pause <= MAX_PAUSE
 }
 
 /// Between 1 and 8 crossings.
@@ -55,6 +57,14 @@ fn phase_in_range(record: &Crossing, entry: &Entry) -> bool {
     }
 }
 
+/// Ticks are left to motorists in phase 0 alone (document 02, T-06).
+fn left_in_range(record: &Crossing, entry: &Entry) -> bool {
+    match record.phase {
+        phase::OPEN => record.left <= entry.pause,
+        _ => record.left == 0,
+    }
+}
+
 /// Every flag 0 or 1.
 fn flags_in_range(record: &Crossing) -> bool {
     let are = |flags: &[u8]| flags.iter().all(|flag| *flag <= 1);
@@ -70,6 +80,7 @@ fn record_in_range(record: &Crossing, entry: &Entry) -> bool {
         && record.out <= MAX_OUT
         && flags_in_range(record)
         && phase_in_range(record, entry)
+        && left_in_range(record, entry)
         && booms_in_range(record, entry)
         && (0..4).all(|t| track_in_range(record, entry, t))
 }

@@ -88,6 +88,8 @@ pub struct Entry {
     pub pre: u16,
     /// G, right booms to left in ticks; kind 4 only.
     pub gap: u16,
+    /// M, for motorists between two closures in ticks, 0 to 540 (document 02, T-06).
+    pub pause: u16,
 }
 
 impl Entry {
@@ -97,6 +99,7 @@ impl Entry {
         mask: 0,
         pre: 0,
         gap: 0,
+        pause: 0,
     };
 
     /// How many booms this kind has.
@@ -158,6 +161,8 @@ pub struct Crossing {
     pub countdown: u16,
     pub phase: u8,
     pub timer: u16,
+    /// Ticks left to motorists, 0 to M in phase 0, otherwise 0 (document 02, T-06).
+    pub left: u16,
     /// Ticks out of normal position, 0 to 901.
     pub out: u16,
 }
@@ -176,6 +181,7 @@ impl Crossing {
         countdown: 0,
         phase: phase::OPEN,
         timer: 0,
+        left: 0,
         out: 0,
     };
 

@@ -2,7 +2,7 @@
 
 mod common;
 
-use common::{book, entry, site};
+use common::{book, entry, paused, site};
 use engine::{book_len, read_book, write_book, Crossing, Entry, Plant, Site};
 
 /// Refused reading gives the fresh plant of the zero site, all of it zero.
@@ -16,23 +16,31 @@ fn refused(bytes: &[u8], number: u8) {
 }
 
 /// A book of one crossing.
+fn one_with(kind: u8, tracks: u8, mask: u8, times: [u16; 3]) -> Vec<u8> {
+    let mut bytes = vec![1, kind, tracks, mask];
+    bytes.extend(times.iter().flat_map(|time| time.to_le_bytes()));
+    bytes
+}
+
+/// The same with M 0.
 fn one(kind: u8, tracks: u8, mask: u8, pre: u16, gap: u16) -> Vec<u8> {
-    let [f0, f1] = pre.to_le_bytes();
-    let [g0, g1] = gap.to_le_bytes();
-    vec![1, kind, tracks, mask, f0, f1, g0, g1]
+    one_with(kind, tracks, mask, [pre, gap, 0])
 }
 
 #[test]
 fn read_gives_the_fresh_plant() {
+    #[rustfmt::skip]
     let bytes = [
-        2, 3, 1, 0, 4, 4, 0b1010, 2, 0, 0, 0, 180, 0, 90, 0, // two arrays
+        2, 3, 1, 0, 4, 4, 0b1010,
+        2, 0, 0, 0, 0, 0, 180, 0, 90, 0, 0x1c, 2,
     ];
     let (number, plant) = read_book(&bytes);
     assert_eq!(number, 0);
     assert_eq!(plant.beat, 0);
     assert_eq!(plant.site.n, 2);
     assert_eq!(plant.site.entries[0], entry(3, 1, 0, 2, 0));
-    assert_eq!(plant.site.entries[1], entry(4, 4, 0b1010, 180, 90));
+    let second = paused(entry(4, 4, 0b1010, 180, 90), 540);
+    assert_eq!(plant.site.entries[1], second);
     assert_eq!(plant.site.entries[2..], [Entry::ZERO; 6]);
     assert_eq!(plant.crossings[..2], [Crossing::FRESH; 2]);
     assert_eq!(plant.crossings[2..], [Crossing::ZERO; 6]);
@@ -49,12 +57,12 @@ fn torn_and_over_long() {
     refused(&[], 1);
     for n in [0, 9, 10, 255] {
         refused(&[n], 2);
-        refused(&vec![n; 1 + 7 * usize::from(n)], 2);
-        refused(&[n; 70], 2);
+        refused(&vec![n; 1 + 9 * usize::from(n)], 2);
+        refused(&[n; 90], 2);
     }
     for n in 1..=8u8 {
         let good = book(&site(&vec![entry(2, 3, 0b101, 9, 0); n.into()]));
-        for len in 0..=70 {
+        for len in 0..=90 {
             let mut bytes = good.clone();
             bytes.resize(len, 0);
             if len != good.len() {
@@ -63,6 +71,37 @@ fn torn_and_over_long() {
         }
     }
     refused(&[1, 0, 0, 0, 0, 0, 0], 1);
+}
+
+/// Document 02, T-06: a book without M is torn.
+#[test]
+fn the_old_length_is_torn() {
+    for n in 1..=8u8 {
+        let mut bytes = vec![n];
+        bytes.extend([3, 1, 0].repeat(n.into()));
+        bytes.extend([2, 0, 0, 0].repeat(n.into()));
+        assert_eq!(bytes.len(), 1 + 7 * usize::from(n));
+        refused(&bytes, 1);
+    }
+}
+
+#[test]
+fn motorist_time_of_every_kind() {
+    for kind in 1..=4 {
+        let gap = u16::from(kind == 4);
+        for pause in 0..=u16::MAX {
+            let bytes = one_with(kind, 1, 0, [2, gap, pause]);
+            let (number, plant) = read_book(&bytes);
+            assert_eq!(number, if pause <= 540 { 0 } else { 3 }, "{kind} {pause}");
+            if number == 0 {
+                let settings = paused(entry(kind, 1, 0, 2, gap), pause);
+                assert_eq!(plant, Plant::fresh(&site(&[settings])));
+                assert_eq!(plant.crossings[0].left, 0);
+                assert_eq!(book(&plant.site), bytes);
+            }
+        }
+        refused(&one_with(kind, 1, 0, [2, gap, 541]), 3);
+    }
 }
 
 #[test]
@@ -96,8 +135,8 @@ fn round_trips() {
     for n in 1..=8usize {
         let list: Vec<Entry> = (0..n)
             .map(|i| match i % 4 {
-                3 => entry(4, 4, 0b1111, 180, 90),
-                k => entry(k as u8 + 1, i as u8 % 4 + 1, 1, 7 + i as u16, 0),
+                3 => paused(entry(4, 4, 0b1111, 180, 90), 540),
+                k => paused(entry(k as u8 + 1, i as u8 % 4 + 1, 1, 7 + i as u16, 0), 300),
             })
             .collect();
         let settings = site(&list);
@@ -119,17 +158,23 @@ fn write_refused(settings: &Site, len: usize, number: u8) {
 #[test]
 fn write_refusals_in_order() {
     let good = site(&[entry(3, 1, 0, 2, 0), entry(1, 2, 3, 1, 0)]);
-    for len in (0..70).filter(|len| *len != book_len(2)) {
+    assert_eq!(book_len(2), 19);
+    for len in (0..90).filter(|len| *len != book_len(2)) {
         write_refused(&good, len, 14);
     }
     let mut wrong = good;
     wrong.entries[1].pre = 0;
     write_refused(&wrong, book_len(2), 3);
     write_refused(&wrong, 3, 3);
-    let mut past = good;
-    past.entries[7].gap = 1;
-    write_refused(&past, book_len(2), 3);
-    write_refused(&past, 0, 3);
+    wrong.entries[1] = paused(good.entries[1], 541);
+    write_refused(&wrong, book_len(2), 3);
+    write_refused(&wrong, 15, 3);
+    for change in [|e: &mut Entry| e.gap = 1, |e: &mut Entry| e.pause = 1] {
+        let mut past = good;
+        change(&mut past.entries[7]);
+        write_refused(&past, book_len(2), 3);
+        write_refused(&past, 0, 3);
+    }
     for n in [0, 9, 255] {
         wrong.n = n;
         write_refused(&wrong, book_len(2), 2);

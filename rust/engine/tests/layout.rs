@@ -5,19 +5,21 @@ use std::mem::{offset_of, size_of};
 
 #[test]
 fn sizes() {
-    assert_eq!(size_of::<Entry>(), 8);
-    assert_eq!(size_of::<Site>(), 66);
-    assert_eq!(size_of::<Crossing>(), 40);
-    assert_eq!(size_of::<Plant>(), 388);
+    assert_eq!(size_of::<Entry>(), 10);
+    assert_eq!(size_of::<Site>(), 82);
+    assert_eq!(size_of::<Crossing>(), 42);
+    assert_eq!(size_of::<Plant>(), 420);
     assert_eq!(size_of::<Run>(), 16);
 }
 
 #[test]
 fn offsets() {
     assert_eq!(offset_of!(Entry, pre), 4);
+    assert_eq!(offset_of!(Entry, gap), 6);
+    assert_eq!(offset_of!(Entry, pause), 8);
     assert_eq!(offset_of!(Site, entries), 2);
-    assert_eq!(offset_of!(Plant, beat), 66);
-    assert_eq!(offset_of!(Plant, crossings), 68);
+    assert_eq!(offset_of!(Plant, beat), 82);
+    assert_eq!(offset_of!(Plant, crossings), 84);
     assert_eq!(offset_of!(Crossing, occupied), 12);
     assert_eq!(offset_of!(Crossing, unsure), 16);
     assert_eq!(offset_of!(Crossing, booms), 20);
@@ -25,6 +27,7 @@ fn offsets() {
     assert_eq!(offset_of!(Crossing, countdown), 32);
     assert_eq!(offset_of!(Crossing, phase), 34);
     assert_eq!(offset_of!(Crossing, timer), 36);
-    assert_eq!(offset_of!(Crossing, out), 38);
+    assert_eq!(offset_of!(Crossing, left), 38);
+    assert_eq!(offset_of!(Crossing, out), 40);
     assert_eq!(offset_of!(Run, taken), 4);
 }

@@ -5,7 +5,7 @@ mod common;
 use common::{book, entry, four_kinds, fresh, panel, send, sheet, site, TICK};
 use engine::{program, run, Run, PANEL};
 
-const SITE: [u8; 8] = [1, 3, 1, 0, 2, 0, 0, 0];
+const SITE: [u8; 10] = [1, 3, 1, 0, 2, 0, 0, 0, 0, 0];
 #[rustfmt::skip]
 const SHEET: [u8; 22] = [
     5, 0, 1, 0, 0, 8, 8,
@@ -23,7 +23,8 @@ fn printed_case() {
 fn printed_refusals() {
     assert_eq!(program(&[], &SHEET), "refused 1\n");
     assert_eq!(program(&[9], &[]), "refused 2\n");
-    assert_eq!(program(&[1, 0, 1, 0, 2, 0, 0, 0], &[]), "refused 3\n");
+    assert_eq!(program(&SITE[..8], &SHEET), "refused 1\n");
+    assert_eq!(program(&[1, 0, 1, 0, 2, 0, 0, 0, 0, 0], &[]), "refused 3\n");
     assert_eq!(program(&SITE, &[]), "refused 4\n");
     assert_eq!(program(&SITE, &[1, 0x10]), "refused 2\n");
 }

@@ -2,7 +2,7 @@
 
 mod common;
 
-use common::{entry, four_kinds, fresh};
+use common::{entry, four_kinds, fresh, paused};
 use engine::{boom, in_range, Crossing, Entry, Plant};
 
 fn spoilt(plant: &Plant, change: impl FnOnce(&mut Plant)) {
@@ -45,6 +45,11 @@ fn settings_and_beat() {
     spoilt(&plant, |p| p.site.entries[2].gap = 1);
     spoilt(&plant, |p| p.site.entries[3].gap = 0);
     spoilt(&plant, |p| p.site.entries[3].gap = 91);
+    for i in 0..4 {
+        spoilt(&plant, |p| p.site.entries[i].pause = 541);
+        spoilt(&plant, |p| p.site.entries[i].pause = 65535);
+        sound(&plant, |p| p.site.entries[i].pause = 540);
+    }
     spoilt(&plant, |p| p.site.entries[7] = entry(1, 1, 0, 1, 0));
     spoilt(&plant, |p| p.beat = 4);
     for beat in 0..4 {
@@ -145,10 +150,34 @@ fn counters() {
     spoilt(&plant, |p| p.crossings[2].out = 902);
 }
 
+/// Document 02, T-06: 0 to M in phase 0, otherwise 0.
+#[test]
+fn ticks_left_to_motorists() {
+    let phases = [(0, 0), (1, 1), (2, 1), (3, 0), (4, 0)];
+    for (kind, pause) in (1..=4).flat_map(|kind| [0, 1, 3, 540].map(|pause| (kind, pause))) {
+        let plant = fresh(&[paused(entry(kind, 1, 0, 2, u16::from(kind == 4)), pause)]);
+        for (phase, timer) in phases {
+            let mut at = plant;
+            (at.crossings[0].phase, at.crossings[0].timer) = (phase, timer);
+            if !in_range(&at) {
+                continue;
+            }
+            let most = if phase == 0 { pause } else { 0 };
+            for left in (0..=545).chain([556, 796, 65535]) {
+                at.crossings[0].left = left;
+                assert_eq!(in_range(&at), left <= most, "{kind} {pause} {phase} {left}");
+            }
+            at.crossings[0].left = most;
+            sound(&at, |_| {});
+            spoilt(&at, |p| p.crossings[0].left = most + 1);
+        }
+    }
+}
+
 #[test]
 fn past_n() {
     let plant = four_kinds();
-    let changes: [fn(&mut Crossing); 13] = [
+    let changes: [fn(&mut Crossing); 14] = [
         |c| c.calling[0] = 1,
         |c| c.waiting[0] = 1,
         |c| c.route[0] = 1,
@@ -161,6 +190,7 @@ fn past_n() {
         |c| c.countdown = 1,
         |c| c.phase = 3,
         |c| c.timer = 1,
+        |c| c.left = 1,
         |c| c.out = 1,
     ];
     for change in changes {
@@ -168,12 +198,13 @@ fn past_n() {
             spoilt(&plant, |p| change(&mut p.crossings[i]));
         }
     }
-    let entries: [fn(&mut Entry); 5] = [
+    let entries: [fn(&mut Entry); 6] = [
         |e| e.kind = 1,
         |e| e.tracks = 1,
         |e| e.mask = 1,
         |e| e.pre = 1,
         |e| e.gap = 1,
+        |e| e.pause = 1,
     ];
     for change in entries {
         for i in 4..8 {

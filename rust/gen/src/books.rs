@@ -3,7 +3,7 @@
 use crate::rng::Rng;
 use engine::{book_len, Entry, Site};
 
-/// Settings of one crossing; `quick` keeps F and G short.
+/// Settings of one crossing, M 0; `quick` keeps F and G short.
 pub fn entry(rng: &mut Rng, quick: bool) -> Entry {
     let kind = rng.within(1..=4) as u8;
     let tracks = rng.within(1..=4) as u8;
@@ -21,6 +21,25 @@ pub fn entry(rng: &mut Rng, quick: bool) -> Entry {
         mask: rng.byte() & ((1 << tracks) - 1),
         pre,
         gap: if kind == 4 { gap } else { 0 },
+        pause: 0,
+    }
+}
+
+/// Gives each of them an M (document 02, T-06): half of the time 0 to all, otherwise mostly a short
+/// one, which runs out soon.
+pub(crate) fn give_pauses(mut rng: Rng, entries: &mut [Entry]) {
+    if rng.flag() {
+        return;
+    }
+    for entry in entries {
+        entry.pause = match rng.below(8) {
+            0 | 1 => 0,
+            // Without booms only a long one lets a release end with a warning.
+            2 if entry.kind == 1 => rng.within(264..=540) as u16,
+            2..=5 => rng.within(1..=6) as u16,
+            6 => rng.within(0..=540) as u16,
+            _ => rng.pick(&[255, 256, 257, 512, 539, 540]),
+        };
     }
 }
 
@@ -32,6 +51,7 @@ fn site_with(rng: &mut Rng, quick: bool) -> Site {
     for i in 0..usize::from(site.n) {
         site.entries[i] = entry(rng, quick);
     }
+    give_pauses(rng.aside(), &mut site.entries[..site.n.into()]);
     site
 }
 
@@ -48,12 +68,22 @@ pub fn quick_site(rng: &mut Rng) -> Site {
 
 /// The book of any settings, in range or not, with `n` at most 8.
 pub fn book_bytes(site: &Site) -> Vec<u8> {
+    book_with(site, 3)
+}
+
+/// The same as a book without M, as it was before document 02, T-06.
+pub fn old_book(site: &Site) -> Vec<u8> {
+    book_with(site, 2)
+}
+
+/// The first `times` of F, G and M.
+fn book_with(site: &Site, times: usize) -> Vec<u8> {
     let entries = &site.entries[..usize::from(site.n)];
     let mut bytes = vec![site.n];
     bytes.extend(entries.iter().flat_map(|e| [e.kind, e.tracks, e.mask]));
     for e in entries {
-        bytes.extend(e.pre.to_le_bytes());
-        bytes.extend(e.gap.to_le_bytes());
+        let times = [e.pre, e.gap, e.pause].into_iter().take(times);
+        bytes.extend(times.flat_map(u16::to_le_bytes));
     }
     bytes
 }
@@ -63,7 +93,10 @@ pub fn book(rng: &mut Rng) -> Vec<u8> {
     book_bytes(&site(rng))
 }
 
-/// Books of every count 0 to 9 and 255 in every length 0 to 70, good where they can be.
+/// Longest book that is made: the longest good one and some bytes more.
+const LONGEST: u32 = 86;
+
+/// Books of every count 0 to 9 and 255 in every length up to the longest, good where they can be.
 pub fn all_lengths() -> Vec<Vec<u8>> {
     let rng = &mut Rng::new(70);
     let mut books = Vec::new();
@@ -71,7 +104,8 @@ pub fn all_lengths() -> Vec<Vec<u8>> {
         let mut site = Site::ZERO;
         site.n = u8::min(count, 8);
         site.entries[..site.n.into()].fill_with(|| entry(rng, false));
-        for len in 0..=70 {
+        give_pauses(rng.aside(), &mut site.entries[..site.n.into()]);
+        for len in 0..=LONGEST as usize {
             let mut bytes = book_bytes(&site);
             bytes[0] = count;
             bytes.resize(len, 0);
@@ -96,10 +130,12 @@ pub enum BookDamage {
     GapWithoutBooms,
     OneByte,
     Junk,
+    Pause,
+    OldLength,
 }
 
 impl BookDamage {
-    pub const ALL: [BookDamage; 12] = [
+    pub const ALL: [BookDamage; 14] = [
         BookDamage::Empty,
         BookDamage::Count,
         BookDamage::Short,
@@ -112,10 +148,18 @@ impl BookDamage {
         BookDamage::GapWithoutBooms,
         BookDamage::OneByte,
         BookDamage::Junk,
+        BookDamage::Pause,
+        BookDamage::OldLength,
     ];
+
+    /// Any of them, the two of document 02, T-06, by numbers aside.
+    pub fn any(rng: &mut Rng) -> BookDamage {
+        let (first, later) = BookDamage::ALL.split_at(BookDamage::Pause as usize);
+        rng.pick_or(first, later)
+    }
 }
 
-/// A book with this damage; lengths 0 to 70.
+/// A book with this damage, no longer than the longest.
 pub fn damaged_book(rng: &mut Rng, damage: BookDamage) -> Vec<u8> {
     let mut site = site(rng);
     let i = rng.below(site.n.into()) as usize;
@@ -124,6 +168,7 @@ pub fn damaged_book(rng: &mut Rng, damage: BookDamage) -> Vec<u8> {
     let len = bytes.len() as u32;
     match damage {
         BookDamage::Empty => bytes.clear(),
+        BookDamage::OldLength => bytes = old_book(&site),
         BookDamage::Count => bytes[0] = rng.pick(&[0, 9, 10, 128, 255]),
         BookDamage::Short => bytes.truncate(rng.below(len) as usize),
         BookDamage::Long => bytes.resize(len as usize + rng.within(1..=13) as usize, 0),
@@ -132,7 +177,7 @@ pub fn damaged_book(rng: &mut Rng, damage: BookDamage) -> Vec<u8> {
             bytes[at] = rng.byte();
         }
         BookDamage::Junk => {
-            let len = rng.within(0..=70);
+            let len = rng.within(0..=LONGEST);
             bytes = (0..len).map(|_| rng.pick(&[0, 1, 2, 3, 4, 8])).collect();
         }
         _ => {}
@@ -154,6 +199,7 @@ fn damage_entry(rng: &mut Rng, entry: &mut Entry, damage: BookDamage) {
             entry.kind = rng.within(1..=3) as u8;
             entry.gap = rng.pick(&[1, 90, 256, 65535]);
         }
+        BookDamage::Pause => entry.pause = rng.pick(&[541, 542, 768, 796, 32768, 65535]),
         _ => {}
     }
 }

@@ -3,11 +3,12 @@
 use crate::booms::BoomBytes;
 use crate::flags::FlagBytes;
 use crate::lost_met::LostCounts;
+use crate::paused::PauseCounts;
 use crate::previewed::PreviewCounts;
 use crate::senders::{sees_all, Command};
 use crate::sent::SenderCounts;
 use crate::unsure::UnsureCounts;
-use engine::{boom, code, event, number, phase, Crossing, Plant, PANEL};
+use engine::{boom, code, event, number, phase, Crossing, Plant, Site, PANEL};
 
 /// The six calls.
 #[derive(Clone, Copy, PartialEq, Debug)]
@@ -50,6 +51,7 @@ pub struct Coverage {
     pub(crate) booms: [BoomBytes; 6],
     pub(crate) unsure: UnsureCounts,
     pub(crate) lost: LostCounts,
+    pub(crate) pauses: PauseCounts,
     pub(crate) previews: PreviewCounts,
     pub(crate) senders: SenderCounts,
 }
@@ -110,10 +112,23 @@ impl Coverage {
         self.calls[call as usize][place(number)] += 1;
     }
 
+    /// A book read with this answer.
+    pub fn read(&mut self, book: &[u8], number: u8) {
+        self.call(Call::ReadBook, number);
+        self.pauses.read(book, number);
+    }
+
+    /// Settings written as a book with this answer.
+    pub fn write(&mut self, site: &Site, number: u8) {
+        self.call(Call::WriteBook, number);
+        self.pauses.write(site, number);
+    }
+
     /// A call was handed this plant.
     pub fn handed(&mut self, call: Call, plant: &Plant) {
         self.flags[call as usize].mark(plant);
         self.booms[call as usize].mark(plant);
+        self.pauses.handed(call as usize, plant);
     }
 
     /// How many events were put to the engine one by one.
@@ -133,7 +148,7 @@ impl Coverage {
                 .refused(&after.site.entries[usize::from(e[1])], e[3]);
         }
         if number != number::TAKEN {
-            return;
+            return self.pauses.refused(before, e[1], number);
         }
         if e[0] == code::TICK {
             self.written_off[written_off.min(2) as usize] += 1;
@@ -149,6 +164,7 @@ impl Coverage {
             self.moves[usize::from(from.phase)][usize::from(to.phase)] += 1;
             self.unsure.event(entry, e, from, to);
             self.lost.event(entry, e, from, to);
+            self.pauses.event(entry, e, from, to);
         }
     }
 
@@ -174,6 +190,7 @@ impl Coverage {
             let row = &mut self.signals[rhythm(record)][usize::from(plant.beat)];
             row.count(shown << 4 | bytes[1] & 15);
             self.lost.panel(entry, record, bytes[6] == 1, bytes[2] == 1);
+            self.pauses.panel(entry, record, bytes[9] & 1 == 1);
         }
     }
 
@@ -212,6 +229,7 @@ impl Coverage {
         booms.for_each(|(a, b)| a.add(b));
         self.unsure.add(&other.unsure);
         self.lost.add(&other.lost);
+        self.pauses.add(&other.pauses);
         self.previews.add(&other.previews);
         self.senders.add(&other.senders);
         self.panels += other.panels;

@@ -39,6 +39,7 @@ pub(crate) fn base(n: u8, turn: u8) -> Plant {
             mask: 15,
             pre: 5,
             gap: if kind == 4 { 3 } else { 0 },
+            pause: 0,
         };
         plant.site.entries[usize::from(i)] = entry;
         plant.crossings[usize::from(i)] = crossing(rng, &entry);

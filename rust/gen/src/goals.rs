@@ -1,5 +1,6 @@
 //! What a set of inputs should reach, and the table of it.
 
+mod pauses;
 mod previews;
 mod senders;
 
@@ -131,6 +132,7 @@ impl Coverage {
         goals.extend(self.phase_goals());
         goals.extend(self.unsure_goals());
         goals.extend(self.lost_goals());
+        goals.extend(self.pause_goals());
         goals.extend(self.preview_goals());
         goals.extend(self.sender_goals());
         goals.extend(self.rhythm_goals());

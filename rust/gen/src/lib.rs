@@ -11,6 +11,8 @@ mod flags;
 mod goals;
 mod lost;
 mod lost_met;
+mod paused;
+mod pauses;
 mod plants;
 mod previewed;
 mod previews;
@@ -25,13 +27,15 @@ mod traffic;
 mod unsure;
 
 pub use books::{
-    all_lengths, book, book_bytes, damaged_book, entry, frame, quick_site, site, BookDamage,
+    all_lengths, book, book_bytes, damaged_book, entry, frame, old_book, quick_site, site,
+    BookDamage,
 };
 pub use booms::every_boom;
 pub use coverage::{Call, Coverage};
 pub use events::{event, event_grid, junk_event};
 pub use flags::{every_flag, flags, FLAGS};
 pub use lost::{lost_plants, lost_reports};
+pub use pauses::{every_left, every_pause, pause_events, pause_plants};
 pub use plants::plant;
 pub use previews::{preview_frame, preview_grid};
 pub use rights::{right_grid, right_previews, views};

@@ -13,6 +13,8 @@ pub fn plant(rng: &mut Rng) -> Plant {
     for i in 0..usize::from(settings.n) {
         if rng.below(4) < busy {
             plant.crossings[i] = crossing(rng, &settings.entries[i]);
+        } else {
+            set_left(rng.aside(), &mut plant.crossings[i], &settings.entries[i]);
         }
     }
     plant
@@ -62,7 +64,16 @@ pub(crate) fn crossing(rng: &mut Rng, entry: &Entry) -> Crossing {
     c.countdown = count(rng, &[1, 2, 269, 270], 270);
     c.out = count(rng, &[1, 899, 900, 901], 901);
     set_phase(rng, &mut c, entry);
+    set_left(rng.aside(), &mut c, entry);
     c
+}
+
+/// In phase 0 often some ticks left to motorists, as far as there is an M (document 02, T-06).
+fn set_left(mut rng: Rng, c: &mut Crossing, entry: &Entry) {
+    if c.phase == phase::OPEN {
+        let left = count(&mut rng, &[1, 2, entry.pause], entry.pause.into());
+        c.left = left.min(entry.pause);
+    }
 }
 
 /// One of the reports of a boom.

@@ -33,6 +33,7 @@ pub(crate) fn fresh(n: u8) -> Plant {
             mask: 0b10,
             pre: 2,
             gap: u16::from(kind == 4),
+            pause: 0,
         };
     }
     Plant::fresh(&site)

@@ -2,6 +2,9 @@
 
 use std::ops::RangeInclusive;
 
+/// Takes the numbers aside apart from the others.
+const ASIDE: u64 = 0x6173_6964_655f_5f5f;
+
 /// Numbers that follow from a seed.
 #[derive(Clone)]
 pub struct Rng(u64);
@@ -15,6 +18,12 @@ impl Rng {
     pub fn of_case(seed: u64, index: u64) -> Rng {
         let mut rng = Rng(seed ^ index.wrapping_mul(0xd134_2543_de82_ef95));
         Rng(rng.next())
+    }
+
+    /// Numbers of their own that follow from where this generator stands. It stays there, so that
+    /// what is made with them leaves the rest of a case as it was.
+    pub fn aside(&self) -> Rng {
+        Rng(Rng(self.0 ^ ASIDE).next())
     }
 
     #[allow(clippy::should_implement_trait)]
@@ -50,6 +59,16 @@ impl Rng {
 
     pub fn pick<T: Copy>(&mut self, list: &[T]) -> T {
         list[self.below(list.len() as u32) as usize]
+    }
+
+    /// One of `list`, or once in six, by numbers aside, one of `later`.
+    pub fn pick_or<T: Copy>(&mut self, list: &[T], later: &[T]) -> T {
+        let mut aside = self.aside();
+        let picked = self.pick(list);
+        match aside.once_in(6) {
+            true => aside.pick(later),
+            false => picked,
+        }
     }
 
     /// An index, each as often as its weight says.

@@ -1,6 +1,6 @@
 //! Plants with exactly one kind of spoilt number.
 
-use crate::books::entry;
+use crate::books::{entry, give_pauses};
 use crate::plants::{crossing, plant};
 use crate::rng::Rng;
 use engine::{boom, phase, Crossing, Entry, Plant, Site};
@@ -28,6 +28,21 @@ spoils! {
     WarningTimerZero WarningTimerOver GapTimerZero GapTimerOver StillTimer
     PastCalling PastWaiting PastRoute PastOccupied PastUnsure PastBooms PastLamps
     PastKiosk PastOperator PastCountdown PastPhase PastTimer PastOut
+    Pause EntryPastPause LeftOver LeftOutside LeftWithoutPause PastLeft
+}
+
+impl Spoil {
+    /// Any of them; those of document 02, T-06, which come last, by numbers aside.
+    pub fn any(rng: &mut Rng) -> Spoil {
+        let (first, later) = Spoil::ALL.split_at(Spoil::Pause as usize);
+        rng.pick_or(first, later)
+    }
+
+    /// Any of the settings.
+    pub fn of_settings(rng: &mut Rng) -> Spoil {
+        let first = &Spoil::ALL[..=Spoil::EntryPastGap as usize];
+        rng.pick_or(first, &[Spoil::Pause, Spoil::EntryPastPause])
+    }
 }
 
 /// A plant in range but for one number.
@@ -53,6 +68,7 @@ pub fn spoilt_plant(rng: &mut Rng, spoil: Spoil) -> Plant {
             spoil_tracks(rng, &e, &mut plant.crossings[i], spoil);
             spoil_flags(rng, &e, &mut plant.crossings[i], spoil);
             spoil_phase(rng, &e, &mut plant.crossings[i], spoil);
+            spoil_left(rng, &e, &mut plant.crossings[i], spoil);
             spoil_past(rng, &mut plant.crossings[past], spoil);
         }
     }
@@ -73,6 +89,7 @@ fn shorten(rng: &mut Rng, plant: &mut Plant) {
 /// Settings under which this number can be spoilt alone.
 fn suited(rng: &mut Rng, spoil: Spoil) -> Entry {
     let mut e = entry(rng, false);
+    give_pauses(rng.aside(), std::slice::from_mut(&mut e));
     let kind = match spoil {
         Spoil::Gap | Spoil::GapTimerZero | Spoil::GapTimerOver => 4,
         Spoil::GapWithoutBooms | Spoil::RightDownWithoutLeft => rng.within(1..=3) as u8,
@@ -92,6 +109,8 @@ fn suited(rng: &mut Rng, spoil: Spoil) -> Entry {
         Spoil::RouteOffTrack | Spoil::OccupiedOffTrack => e.tracks = e.tracks.min(3),
         Spoil::UnsureOffTrack => e.tracks = e.tracks.min(3),
         Spoil::TooManyTrains | Spoil::Route => e.mask |= 1,
+        Spoil::LeftOutside => e.pause = e.pause.max(1),
+        Spoil::LeftWithoutPause => e.pause = 0,
         _ => {}
     }
     e.mask &= match spoil {
@@ -117,6 +136,7 @@ fn spoil_entry(rng: &mut Rng, e: &mut Entry, spoil: Spoil) {
         Spoil::Pre => e.pre = rng.pick(&[0, 181, 65535]),
         Spoil::Gap => e.gap = rng.pick(&[0, 91, 65535]),
         Spoil::GapWithoutBooms => e.gap = rng.pick(&[1, 90, 65535]),
+        Spoil::Pause => e.pause = rng.pick(&[541, 542, 796, 65535]),
         _ => {}
     }
 }
@@ -128,6 +148,7 @@ fn spoil_past_entry(rng: &mut Rng, e: &mut Entry, spoil: Spoil) {
         Spoil::EntryPastMask => e.mask = rng.pick(&[1, 8, 128]),
         Spoil::EntryPastPre => e.pre = rng.pick(&[1, 180, 256]),
         Spoil::EntryPastGap => e.gap = rng.pick(&[1, 90, 256]),
+        Spoil::EntryPastPause => e.pause = rng.pick(&[1, 256, 540]),
         _ => {}
     }
 }
@@ -177,8 +198,12 @@ fn spoil_flags(rng: &mut Rng, e: &Entry, c: &mut Crossing, spoil: Spoil) {
     }
 }
 
+/// A number above `max`.
+fn over(rng: &mut Rng, max: u16) -> u16 {
+    rng.pick(&[max + 1, max + 256, 65535])
+}
+
 fn spoil_phase(rng: &mut Rng, e: &Entry, c: &mut Crossing, spoil: Spoil) {
-    let over = |rng: &mut Rng, max: u16| rng.pick(&[max + 1, max + 256, 65535]);
     let (phase, timer) = match spoil {
         Spoil::PhaseOver => (rng.pick(&[5, 6, 255]), 0),
         Spoil::RightDownWithoutLeft => (phase::RIGHT_DOWN, rng.pick(&[0, 1])),
@@ -191,8 +216,23 @@ fn spoil_phase(rng: &mut Rng, e: &Entry, c: &mut Crossing, spoil: Spoil) {
         Spoil::StillTimer => (rng.pick(&[0, 3, 4]), rng.pick(&[1, 65535])),
         _ => return,
     };
-    c.phase = phase;
-    c.timer = timer;
+    (c.phase, c.timer, c.left) = (phase, timer, 0);
+}
+
+/// Ticks left to motorists: more than M, out of phase 0, or without M (document 02, T-06).
+fn spoil_left(rng: &mut Rng, e: &Entry, c: &mut Crossing, spoil: Spoil) {
+    let outside: &[(u8, u16)] = match e.kind {
+        1 => &[(phase::WARNING, 1), (phase::ALL_DOWN, 0)],
+        4 => &[(phase::RIGHT_DOWN, 1), (phase::RAISING, 0)],
+        _ => &[(phase::WARNING, 1), (phase::RAISING, 0)],
+    };
+    let ((phase, timer), left) = match spoil {
+        Spoil::LeftOver => ((phase::OPEN, 0), over(rng, e.pause)),
+        Spoil::LeftWithoutPause => ((phase::OPEN, 0), rng.pick(&[1, 2, 540])),
+        Spoil::LeftOutside => (rng.pick(outside), rng.pick(&[1, e.pause])),
+        _ => return,
+    };
+    (c.phase, c.timer, c.left) = (phase, timer, left);
 }
 
 fn spoil_past(rng: &mut Rng, c: &mut Crossing, spoil: Spoil) {
@@ -211,6 +251,7 @@ fn spoil_past(rng: &mut Rng, c: &mut Crossing, spoil: Spoil) {
         Spoil::PastCountdown => c.countdown = rng.pick(&[1, 256, 270]),
         Spoil::PastPhase => c.phase = rng.pick(&[1, 3, 255]),
         Spoil::PastTimer => c.timer = rng.pick(&[1, 256]),
+        Spoil::PastLeft => c.left = rng.pick(&[1, 256, 540]),
         Spoil::PastOut => c.out = rng.pick(&[1, 256, 901]),
         _ => {}
     }

@@ -141,6 +141,7 @@ pub(crate) fn phases() -> Vec<Plant> {
             mask,
             pre: 2,
             gap: u16::from(kind == 4),
+            pause: 0,
         };
         for phase in 0..5 {
             let mut plant = Plant::fresh(&site);

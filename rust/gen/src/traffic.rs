@@ -2,6 +2,7 @@
 //! releases run to their end and detectors sweep their counters, mixed with junk.
 
 mod drives;
+mod pauses;
 
 use crate::events::{event, junk_event};
 use crate::plants::report;
@@ -80,9 +81,15 @@ impl<'a> List<'a> {
     }
 
     fn burst(&mut self) {
+        if let Some(c) = self.with_pause() {
+            return self.motorists(c);
+        }
         match self.rng.below(17) {
             0 => self.release(),
-            1 => self.late_warning(),
+            1 => {
+                let c = self.crossing();
+                self.late_warning(c);
+            }
             2 => self.sweep(),
             3 => self.long_out(),
             4 => self.lose(),
@@ -204,25 +211,6 @@ impl<'a> List<'a> {
                 _ => {}
             }
         }
-    }
-
-    /// A warning that begins out of raising and ends on the tick that ends a release.
-    fn late_warning(&mut self) {
-        let c = self.crossing();
-        let entry = self.plant.site.entries[usize::from(c)];
-        let t = self.track(c);
-        let pre = u32::from(entry.pre);
-        self.clear(c);
-        self.push([code::STRIKE_IN, c, t, 0]);
-        self.ticks(pre + u32::from(entry.gap));
-        self.all_booms(c, boom::DOWN);
-        self.pass_calling(c);
-        self.push([code::STRIKE_IN, c, t, 0]);
-        self.push([code::TIME_RELEASE, c, 0, 0]);
-        let early = self.rng.below(3);
-        self.ticks(271 - early - pre);
-        self.all_booms(c, boom::UP);
-        self.ticks(pre + 2);
     }
 
     /// A detector sweeps its counter, sometimes two do; then what may follow, and mostly a

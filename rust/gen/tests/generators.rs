@@ -49,7 +49,7 @@ fn the_same_on_every_machine() {
     }
     assert_eq!(hash, SAME);
 }
-const SAME: u64 = 17641553705881278465;
+const SAME: u64 = 13051179652684330232;
 
 #[test]
 fn good_books_are_taken() {
@@ -73,14 +73,14 @@ fn damaged_books_are_refused() {
         let expected: &[u8] = match damage {
             BookDamage::Empty => &[1],
             BookDamage::Count => &[2],
-            BookDamage::Short | BookDamage::Long => &[1],
+            BookDamage::Short | BookDamage::Long | BookDamage::OldLength => &[1],
             BookDamage::OneByte => &[0, 1, 2, 3],
             BookDamage::Junk => &[0, 1, 2, 3],
             _ => &[3],
         };
         for _ in 0..500 {
             let bytes = damaged_book(&mut rng, damage);
-            assert!(bytes.len() <= 70);
+            assert!(bytes.len() <= 86);
             let (number, _) = read_book(&bytes);
             assert!(expected.contains(&number), "{damage:?} {bytes:?}");
         }
@@ -244,7 +244,7 @@ fn damaged_sheets_are_refused() {
 fn traffic_reaches_its_states() {
     let mut rng = Rng::new(6);
     let mut seen = Coverage::new();
-    for _ in 0..60 {
+    for _ in 0..150 {
         let settings = quick_site(&mut rng);
         let mut plant = engine::Plant::fresh(&settings);
         let events = coherent(&mut rng, &plant, 4096);
@@ -264,5 +264,6 @@ fn traffic_reaches_its_states() {
     assert!(!left.iter().any(|s| s.starts_with("unsure")), "{left:?}");
     let of_lost = |s: &&String| s.starts_with("lost,") || s.starts_with("lost alone");
     assert!(!left.iter().any(|s| of_lost(&s)), "{left:?}");
+    assert!(!left.iter().any(|s| s.starts_with("pause")), "{left:?}");
     assert!(!left.iter().any(|s| s.starts_with("road")), "{left:?}");
 }

@@ -13,6 +13,7 @@ fn rights_as_in_the_engine() {
         mask: 1,
         pre: 1,
         gap: 1,
+        pause: 0,
     };
     let mut plant = Plant::fresh(&site);
     plant.crossings[0].waiting[0] = 1;

@@ -2,7 +2,8 @@
 //! laid out as there, and every byte pattern is a value of each: what is out of range, the
 //! calls refuse.
 
-/// The settings of one crossing.
+/// The settings of one crossing. `pause` is M, the ticks for motorists between two closures, 0 to
+/// 540 at every kind (T-06).
 #[repr(C)]
 #[derive(Clone, Copy, PartialEq, Debug)]
 pub struct Entry {
@@ -11,6 +12,7 @@ pub struct Entry {
     pub mask: u8,
     pub pre: u16,
     pub gap: u16,
+    pub pause: u16,
 }
 
 /// The settings of a plant; the entries past `n` all zero.
@@ -44,7 +46,8 @@ pub mod sender {
 }
 
 /// What the plant holds for one crossing. Each byte of route, occupied, unsure, lamps, kiosk
-/// and operator is a flag, 0 or 1; any other is out of range, number 15.
+/// and operator is a flag, 0 or 1; any other is out of range, number 15. `left` are the ticks left
+/// to motorists, 0 to M in phase 0 and 0 in any other (T-06).
 #[repr(C)]
 #[derive(Clone, Copy, PartialEq, Debug)]
 pub struct Crossing {
@@ -60,6 +63,7 @@ pub struct Crossing {
     pub countdown: u16,
     pub phase: u8,
     pub timer: u16,
+    pub left: u16,
     pub out: u16,
 }
 
@@ -147,13 +151,13 @@ mod c {
     }
 }
 
-/// Reads a site book.
+/// Reads a site book of 1 + 9n bytes; one without M is torn, number 1 (T-06).
 pub fn read(book: &[u8]) -> Reading {
     // SAFETY: the pointer and the length are those of one slice, lent for the call.
     unsafe { c::wilzhoram_read(book.as_ptr(), book.len()) }
 }
 
-/// Writes settings as a site book of 1 + 7n bytes.
+/// Writes settings as a site book of 1 + 9n bytes.
 pub fn write(site: Site, book: &mut [u8]) -> u8 {
     // SAFETY: as in `read`.
     unsafe { c::wilzhoram_write(site, book.as_mut_ptr(), book.len()) }

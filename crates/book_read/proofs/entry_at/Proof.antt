@@ -27,51 +27,39 @@ mul-second-2 c = search needs
 add-second-2 : tie.Need-add-second-2
 add-second-2 c = search needs
 
-add-third : tie.Need-add-third
-add-third c = search needs
-
-shared-slice-read-t8 : tie.Need-shared-slice-read-t8
-shared-slice-read-t8 c = search needs
-
-add-t11 : tie.Need-add-t11
-add-t11 c = search needs
-
-shared-slice-read-t14 : tie.Need-shared-slice-read-t14
-shared-slice-read-t14 c = search needs
+shared-slice-read-t7 : tie.Need-shared-slice-read-t7
+shared-slice-read-t7 c = search needs
 
 add-t10 : tie.Need-add-t10
 add-t10 c = search needs
 
-shared-slice-read-t16 : tie.Need-shared-slice-read-t16
-shared-slice-read-t16 c = search needs
+shared-slice-read-t13 : tie.Need-shared-slice-read-t13
+shared-slice-read-t13 c = search needs
 
-shared-slice-read-join : tie.Need-shared-slice-read-join
-shared-slice-read-join c = search needs
+add-t9 : tie.Need-add-t9
+add-t9 c = search needs
 
-add-join : tie.Need-add-join
-add-join c = search needs
+shared-slice-read-t15 : tie.Need-shared-slice-read-t15
+shared-slice-read-t15 c = search needs
 
-shared-slice-read-join-2 : tie.Need-shared-slice-read-join-2
-shared-slice-read-join-2 c = search needs
+word-at-requires : tie.Need-word-at-requires
+word-at-requires c κs = search needs
 
-join-requires : tie.Need-join-requires
-join-requires c κs = search needs
+add-word-at : tie.Need-add-word-at
+add-word-at c = search needs
 
-shared-slice-read-join-3 : tie.Need-shared-slice-read-join-3
-shared-slice-read-join-3 c = search needs
+word-at-requires-2 : tie.Need-word-at-requires-2
+word-at-requires-2 c κs = search needs
 
-add-join-2 : tie.Need-add-join-2
-add-join-2 c = search needs
+add-word-at-2 : tie.Need-add-word-at-2
+add-word-at-2 c = search needs
 
-shared-slice-read-join-4 : tie.Need-shared-slice-read-join-4
-shared-slice-read-join-4 c = search needs
-
-join-requires-2 : tie.Need-join-requires-2
-join-requires-2 c κs = search needs
+word-at-requires-3 : tie.Need-word-at-requires-3
+word-at-requires-3 c κs = search needs
 
 returns : tie.Need-returns
 unfolding book-entry
-returns c = simp (c .join2 .ensures, c .before .before .before .join .ensures)
+returns c = simp (c .word-at3 .ensures, c .before .word-at2 .ensures, c .before .before .word-at .ensures)
 
 pub entry-at-spec : {M : Type 1} → statement M
 entry-at-spec =
@@ -85,18 +73,14 @@ entry-at-spec =
     add-second
     mul-second-2
     add-second-2
-    add-third
-    shared-slice-read-t8
-    add-t11
-    shared-slice-read-t14
+    shared-slice-read-t7
     add-t10
-    shared-slice-read-t16
-    shared-slice-read-join
-    add-join
-    shared-slice-read-join-2
-    join-requires
-    shared-slice-read-join-3
-    add-join-2
-    shared-slice-read-join-4
-    join-requires-2
+    shared-slice-read-t13
+    add-t9
+    shared-slice-read-t15
+    word-at-requires
+    add-word-at
+    word-at-requires-2
+    add-word-at-2
+    word-at-requires-3
     returns)

@@ -56,7 +56,7 @@ loop-again c =
     let s = a .t1 in
     let l = c .before .before .before .before .before .before .loop in
     let r = c .before .before .put-second in
-    (search needs, (next-row 4 (λ j. second-part (setting s j)) (λ j. refl) (a .out .now) (1 + 3 * s .n) (l .i) (l .inv .1 .0) (r .ensures), r .kept .0 ∙ l .inv .1 .1))
+    (search needs, (next-row 6 (λ j. second-part (setting s j)) (λ j. refl) (a .out .now) (1 + 3 * s .n) (l .i) (l .inv .1 .0) (r .ensures), r .kept .0 ∙ l .inv .1 .1))
 
 same-length : tie.Need-same-length Inv-loop μ-loop
 same-length c = search needs

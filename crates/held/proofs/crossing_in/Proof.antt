@@ -24,12 +24,15 @@ lamps-in-requires c κs = search needs
 phase-in-requires : tie.Need-phase-in-requires
 phase-in-requires c κs = search needs
 
+left-limit-requires : tie.Need-left-limit-requires
+left-limit-requires c κs = search needs
+
 add-result : tie.Need-add-result
 add-result c = search needs
 
 returns : tie.Need-returns
 unfolding crossing-in
-returns c = simp (c .before .phase-in .ensures, c .before .before .before .before .before .lamps-in .ensures, c .before .before .before .before .before .before .booms-in .ensures, c .before .before .before .before .before .before .before .track-in4 .ensures, c .before .before .before .before .before .before .before .before .track-in3 .ensures, c .before .before .before .before .before .before .before .before .before .track-in2 .ensures, c .before .before .before .before .before .before .before .before .before .before .track-in .ensures)
+returns c = simp (c .before .before .left-limit .ensures, c .before .before .before .phase-in .ensures, c .before .before .before .before .before .before .before .lamps-in .ensures, c .before .before .before .before .before .before .before .before .booms-in .ensures, c .before .before .before .before .before .before .before .before .before .track-in4 .ensures, c .before .before .before .before .before .before .before .before .before .before .track-in3 .ensures, c .before .before .before .before .before .before .before .before .before .before .before .track-in2 .ensures, c .before .before .before .before .before .before .before .before .before .before .before .before .track-in .ensures)
 
 pub crossing-in-spec : {M : Type 1} → statement M
 crossing-in-spec =
@@ -42,5 +45,6 @@ crossing-in-spec =
     booms-in-requires
     lamps-in-requires
     phase-in-requires
+    left-limit-requires
     add-result
     returns)

@@ -12,7 +12,7 @@ gap-in-requires c κs = search needs
 
 returns : tie.Need-returns
 unfolding entry-in
-returns c = simp (c .gap-in .ensures, c .before .before .before .tracks-in .ensures, ← and-assoc)
+returns c = simp (c .before .gap-in .ensures, c .before .before .before .before .tracks-in .ensures, ← and-assoc)
 
 pub entry-in-spec : {M : Type 1} → statement M
 entry-in-spec = tie.close (tie.spec tracks-in-requires gap-in-requires returns)

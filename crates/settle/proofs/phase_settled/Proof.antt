@@ -1,6 +1,6 @@
-use borrow.Author.Needs.{needs}
 use borrow.Author.Tests.{ne-eqb}
 use Rattle.machine.specs.Settling.{phase-settled}
+use borrow.Author.Needs.{needs}
 use Rattle.settle.proofs.phase_settled.Statement.{statement}
 use Rattle.settle.proofs.phase_settled.Tie as tie
 
@@ -29,11 +29,11 @@ returns-5 c = simp (c .if2 .left, c .before .match .keys2)
 
 returns-6 : tie.Need-returns-6
 unfolding phase-settled
-returns-6 c = simp (c .if4 .taken, c .before .if3 .taken, c .before .before .match .keys3)
+returns-6 c = simp (c .if4 .taken, c .before .before .if3 .taken, c .before .before .before .match .keys3)
 
 returns-7 : tie.Need-returns-7
 unfolding phase-settled
-returns-7 c = simp (c .if4 .left, c .before .if3 .taken, c .before .before .match .keys3)
+returns-7 c = simp (c .if4 .left, c .before .before .if3 .taken, c .before .before .before .match .keys3)
 
 returns-8 : tie.Need-returns-8
 unfolding phase-settled

@@ -15,20 +15,23 @@ timer-ticked-requires c κs = search needs
 lowered-requires : tie.Need-lowered-requires
 lowered-requires c κs = search needs
 
+lowered-requires-2 : tie.Need-lowered-requires-2
+lowered-requires-2 c κs = search needs
+
 returns : tie.Need-returns
 unfolding tick
-returns c = simp (c .before .before .before .if1 .taken, c .before .before .before .before .before .lowered .ensures, c .before .before .before .before .before .before .timer-ticked .ensures, c .before .before .before .before .before .before .before .phase-ticked .ensures)
+returns c = simp (c .before .before .before .if1 .taken, c .before .before .before .before .before .lowered2 .ensures, c .before .before .before .before .before .before .lowered .ensures, c .before .before .before .before .before .before .before .timer-ticked .ensures, c .before .before .before .before .before .before .before .before .phase-ticked .ensures)
 
 returns-2 : tie.Need-returns-2
 unfolding tick
 returns-2 c =
-    let a = c .before .before .before .before .before in
+    let a = c .before .before .before .before .before .before in
     let k : length (a .args .c .calling) ≡ 4 = search (a .good .1 .0, needs) in
     let w : length (a .args .c .waiting) ≡ 4 = search (a .good .1 .0, needs) in
     let u : length (a .args .c .unsure) ≡ 4 = search (a .good .1 .0, needs) in
-    simp (c .if1 .left, c .before .before .lowered .ensures, c .before .before .before .timer-ticked .ensures, c .before .before .before .before .phase-ticked .ensures, tab-getD 4 (a .args .c .calling) 0 k, tab-getD 4 (a .args .c .waiting) 0 w, tab-getD 4 (a .args .c .unsure) 0 u)
+    simp (c .if1 .left, c .before .before .lowered2 .ensures, c .before .before .before .lowered .ensures, c .before .before .before .before .timer-ticked .ensures, c .before .before .before .before .before .phase-ticked .ensures, tab-getD 4 (a .args .c .calling) 0 k, tab-getD 4 (a .args .c .waiting) 0 w, tab-getD 4 (a .args .c .unsure) 0 u)
 
 pub run-down-spec : {M : Type 1} → statement M
 run-down-spec =
     tie.close
-    (tie.spec phase-ticked-requires timer-ticked-requires lowered-requires returns returns-2)
+    (tie.spec phase-ticked-requires timer-ticked-requires lowered-requires lowered-requires-2 returns returns-2)

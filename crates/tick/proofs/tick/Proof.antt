@@ -1,23 +1,35 @@
+use mathlib.Core.Path.{sym, _∙_}
+use mathlib.Core.Bool.{_&&_}
 use lib.Dec.{eqb}
 use borrow.Author.Tests.{eqb-true}
 use Rattle.machine.proofs.Tools.{and-both}
+use Rattle.machine.specs.Effects.{tick}
+use Rattle.settle.proofs.Parts.{all-parts, phase-stays}
 use Rattle.tick.proofs.Still.{Tracks, still-ticks}
 use borrow.Author.Needs.{needs}
 use Rattle.tick.proofs.tick.Statement.{statement}
 use Rattle.tick.proofs.tick.Tie as tie
 
-settle-requires : tie.Need-settle-requires
-settle-requires c κs = search needs
+next-phase-requires : tie.Need-next-phase-requires
+next-phase-requires c κs = search needs
+
+count-out-requires : tie.Need-count-out-requires
+count-out-requires c κs = search needs
 
 returns : tie.Need-returns
 returns c =
-    let a = c .before .before .before .before in
+    let n = c .before .before .before in
+    let a = n .before .before .before .before in
     let x = a .args .c in
-    let z = and-both (eqb (x .countdown) 0) (eqb (x .timer) 0) (c .before .if1 .taken) in
+    let e = and-both (eqb (x .countdown) 0 && eqb (x .timer) 0 && eqb (x .left) 0) _ (c .before .if1 .taken) in
+    let y = and-both (eqb (x .countdown) 0 && eqb (x .timer) 0) (eqb (x .left) 0) (e .0) in
+    let z = and-both (eqb (x .countdown) 0) (eqb (x .timer) 0) (y .0) in
     let d = eqb-true (x .countdown) 0 (z .0) in
     let t = eqb-true (x .timer) 0 (z .1) in
-    let l : Tracks x = record { calling = search (a .good .1 .0, needs); waiting = search (a .good .1 .0, needs); unsure = search (a .good .1 .0 .1, needs) } in
-    (simp (c .settle .ensures, still-ticks (a .args .s) x d t l, d), search needs)
+    let m = eqb-true (x .left) 0 (y .1) in
+    let l : Tracks x = record { calling = search (a .good .1 .0, needs); waiting = search (a .good .1 .0, needs); unsure = search (a .good .1 .0 .1 .1, needs) } in
+    let q = sym (n .next-phase .ensures) ∙ eqb-true _ _ (e .1) in
+    (simp (c .count-out .ensures, still-ticks (a .args .s) x d t m l, ← phase-stays (a .args .s) 1 x q, d), search needs)
 
 written-requires : tie.Need-written-requires
 written-requires c κs = search needs
@@ -25,19 +37,30 @@ written-requires c κs = search needs
 run-down-requires : tie.Need-run-down-requires
 run-down-requires c κs = search needs
 
-settle-requires-2 : tie.Need-settle-requires-2
-settle-requires-2 c κs = search needs
+next-phase-requires-2 : tie.Need-next-phase-requires-2
+next-phase-requires-2 c κs = search needs
+
+enter-requires : tie.Need-enter-requires
+enter-requires c κs = search needs
+
+count-out-requires-2 : tie.Need-count-out-requires-2
+count-out-requires-2 c κs = search needs
 
 returns-2 : tie.Need-returns-2
-returns-2 c = (simp (c .settle2 .ensures, c .before .run-down .ensures, c .before .before .written .ensures .0), search needs)
+returns-2 c =
+    let a = c .before .before .before .before .before .before .before .before .before .before .before .args in
+    (simp (c .count-out2 .ensures, c .before .enter .ensures, c .before .before .next-phase2 .ensures, c .before .before .before .run-down .ensures, c .before .before .before .before .written .ensures .0, ← all-parts (a .s) 1 (tick (a .s) (a .c))), search needs)
 
 pub tick-spec : {M : Type 1} → statement M
 tick-spec =
     tie.close
     (tie.spec
-    settle-requires
+    next-phase-requires
+    count-out-requires
     returns
     written-requires
     run-down-requires
-    settle-requires-2
+    next-phase-requires-2
+    enter-requires
+    count-out-requires-2
     returns-2)

@@ -23,7 +23,7 @@ lamps-zero-requires c κs = search needs
 
 returns : tie.Need-returns
 unfolding crossing-zero
-returns c = simp (c .before .before .before .before .before .before .lamps-zero .ensures, c .before .before .before .before .before .before .before .booms-zero .ensures, c .before .before .before .before .before .before .before .before .track-zero4 .ensures, c .before .before .before .before .before .before .before .before .before .track-zero3 .ensures, c .before .before .before .before .before .before .before .before .before .before .track-zero2 .ensures, c .before .before .before .before .before .before .before .before .before .before .before .track-zero .ensures)
+returns c = simp (c .before .before .before .before .before .before .before .lamps-zero .ensures, c .before .before .before .before .before .before .before .before .booms-zero .ensures, c .before .before .before .before .before .before .before .before .before .track-zero4 .ensures, c .before .before .before .before .before .before .before .before .before .before .track-zero3 .ensures, c .before .before .before .before .before .before .before .before .before .before .before .track-zero2 .ensures, c .before .before .before .before .before .before .before .before .before .before .before .before .track-zero .ensures)
 
 pub crossing-zero-spec : {M : Type 1} → statement M
 crossing-zero-spec =

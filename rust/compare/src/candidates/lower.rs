@@ -50,6 +50,9 @@ fn lower_entries(entry: &Entry) -> Vec<Entry> {
     for gap in [1, 2, entry.gap / 2] {
         list.push(Entry { gap, ..*entry });
     }
+    for pause in [0, 1, 2, 3, entry.pause / 2, entry.pause.saturating_sub(1)] {
+        list.push(Entry { pause, ..*entry });
+    }
     for kind in 1..entry.kind {
         let gap = 0;
         list.push(Entry {
@@ -135,6 +138,20 @@ pub(super) fn renumber(e: [u8; 4], gone: usize) -> Option<[u8; 4]> {
     Some([code, crossing - 1, place, value])
 }
 
+/// The records with one flag as this.
+fn lower_flags(flag: u8, with: &mut dyn FnMut(&dyn Fn(&mut Crossing))) {
+    for i in 0..4 {
+        with(&|c| c.route[i] = flag);
+        with(&|c| c.occupied[i] = flag);
+        with(&|c| c.unsure[i] = flag);
+    }
+    for i in 0..5 {
+        with(&|c| c.lamps[i] = flag);
+    }
+    with(&|c| c.kiosk = flag);
+    with(&|c| c.operator = flag);
+}
+
 fn lower_records(c: &Crossing) -> Vec<Crossing> {
     let mut list = vec![Crossing::FRESH, Crossing::ZERO];
     let mut with = |change: &dyn Fn(&mut Crossing)| {
@@ -154,25 +171,19 @@ fn lower_records(c: &Crossing) -> Vec<Crossing> {
         }
     }
     for flag in [0, 1, 2] {
-        for i in 0..4 {
-            with(&|c| c.route[i] = flag);
-            with(&|c| c.occupied[i] = flag);
-            with(&|c| c.unsure[i] = flag);
-        }
-        for i in 0..5 {
-            with(&|c| c.lamps[i] = flag);
-        }
-        with(&|c| c.kiosk = flag);
-        with(&|c| c.operator = flag);
+        lower_flags(flag, &mut with);
     }
     for lower in [0, 1, c.countdown / 2] {
         with(&|c| c.countdown = lower);
+    }
+    for lower in [0, 1, c.left / 2, c.left.saturating_sub(1)] {
+        with(&|c| c.left = lower);
     }
     for lower in [0, 1, c.out / 2] {
         with(&|c| c.out = lower);
     }
     with(&|c| (c.phase, c.timer) = (0, 0));
-    with(&|c| (c.phase, c.timer) = (3, 0));
+    with(&|c| (c.phase, c.timer, c.left) = (3, 0, 0));
     with(&|c| c.timer = 1);
     list
 }

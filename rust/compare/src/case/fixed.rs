@@ -2,17 +2,19 @@
 
 use super::Case;
 use crate::Command;
-use engine::{panel_len, sender, Plant};
+use engine::{book_len, panel_len, sender, Plant};
 use gen::{
-    all_lengths, event_grid, every_boom, every_flag, lost_plants, lost_reports, plant,
-    preview_grid, right_grid, right_previews, sheet_bytes, swept_grid, views, Rng,
+    all_lengths, book_bytes, event_grid, every_boom, every_flag, every_left, every_pause,
+    lost_plants, lost_reports, old_book, pause_events, pause_plants, plant, preview_grid,
+    right_grid, right_previews, sheet_bytes, swept_grid, views, Rng,
 };
 
 impl Case {
     /// Books of every length, a grid of events and frames of every length on a few plants, swept
-    /// counters at every kind, lost booms at every kind that has them, and every value of every
-    /// flag and of every boom report; then grids of previews; then of senders. In all but the last
-    /// an event comes from one who may send it, and a panel is drawn for detection.
+    /// counters at every kind, lost booms at every kind that has them, the time for motorists at
+    /// every kind, and every value of every flag and of every boom report; then grids of previews;
+    /// then of senders. In all but the last an event comes from one who may send it, and a panel is
+    /// drawn for detection.
     pub fn fixed() -> impl Iterator<Item = Case> {
         let books = all_lengths().into_iter().map(|book| Case::Read { book });
         let rng = &mut Rng::new(0);
@@ -29,7 +31,8 @@ impl Case {
             [tick, draw]
         });
         let bytes = every_flag().chain(every_boom()).flat_map(calls);
-        let all = books.chain(grids).chain(events).chain(lost).chain(bytes);
+        let all = books.chain(grids).chain(events).chain(lost);
+        let all = all.chain(fixed_pauses()).chain(bytes);
         all.chain(fixed_previews()).chain(fixed_senders())
     }
 }
@@ -83,6 +86,42 @@ fn calls(plant: Plant) -> [Case; 3] {
 /// Bytes of some older panel, none 0 in a right frame and each another than its neighbour.
 fn older(len: usize) -> Vec<u8> {
     (0..len).map(|i| 0xa5 ^ i as u8).collect()
+}
+
+/// The time for motorists: books of every M and without any, a grid of events, and some ticks in a
+/// row; plants with M and the ticks left around their bounds.
+fn fixed_pauses() -> impl Iterator<Item = Case> {
+    let books = every_pause().flat_map(|site| {
+        let frame = older(book_len(site.n));
+        let [book, old] = [book_bytes(&site), old_book(&site)];
+        let reads = [book, old].map(|book| Case::Read { book });
+        reads.into_iter().chain([Case::Write { site, frame }])
+    });
+    let events = pause_events().map(|(plant, event)| rightful(plant, event));
+    let ticks = pause_plants().into_iter().flat_map(|plant| {
+        let frame = older(panel_len(plant.site.n));
+        let sheet = sheet_bytes(&[[0; 4]; 6]);
+        let [_, draw, _] = calls(plant);
+        let run = Case::Run {
+            plant,
+            sheet,
+            frame,
+        };
+        [draw, run, tick_preview(plant)]
+    });
+    let lefts = every_left().flat_map(|plant| {
+        let calls = calls(plant).into_iter();
+        calls.chain([tick_preview(plant)])
+    });
+    books.chain(events).chain(ticks).chain(lefts)
+}
+
+fn tick_preview(plant: Plant) -> Case {
+    Case::Preview {
+        plant,
+        command: Command::rightful([0; 4]),
+        frame: older(panel_len(plant.site.n)),
+    }
 }
 
 /// Grids of previews, and every value of every flag and of every boom report.

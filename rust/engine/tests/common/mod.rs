@@ -1,10 +1,12 @@
 //! Helpers shared by the tests.
 #![allow(dead_code)]
 
-use engine::{book_len, boom, code, draw, event, panel_len, sender, Entry, Plant, Site, PANEL};
+use engine::{book_len, boom, code, draw, event, panel_len, phase, sender};
+use engine::{Entry, Plant, Site, PANEL};
 
 pub const TICK: [u8; 4] = [0, 0, 0, 0];
 
+/// Settings without a time for motorists, as document 01 has them.
 pub fn entry(kind: u8, tracks: u8, mask: u8, pre: u16, gap: u16) -> Entry {
     Entry {
         kind,
@@ -12,7 +14,13 @@ pub fn entry(kind: u8, tracks: u8, mask: u8, pre: u16, gap: u16) -> Entry {
         mask,
         pre,
         gap,
+        pause: 0,
     }
+}
+
+/// The same with M (document 02, T-06).
+pub fn paused(entry: Entry, pause: u16) -> Entry {
+    Entry { pause, ..entry }
 }
 
 pub fn site(list: &[Entry]) -> Site {
@@ -107,5 +115,39 @@ pub fn program_case() -> Plant {
     let mut plant = fresh(&[entry(3, 1, 0, 2, 0)]);
     take(&mut plant, &[[1, 0, 0, 0], TICK, TICK]);
     take(&mut plant, &[[8, 0, 0, boom::DOWN], [8, 0, 1, boom::DOWN]]);
+    plant
+}
+
+/// Settings of a kind with one plain track and for kind 4 with G 2.
+pub fn settings(kind: u8, pre: u16, pause: u16) -> Entry {
+    let gap = if kind == 4 { 2 } else { 0 };
+    paused(entry(kind, 1, 0, pre, gap), pause)
+}
+
+/// All ordered down by a train; booms, where there are any, down.
+pub fn closed(kind: u8, pre: u16, pause: u16) -> Plant {
+    let entry = settings(kind, pre, pause);
+    let mut plant = fresh(&[entry]);
+    take(&mut plant, &[[1, 0, 0, 0]]);
+    ticks(&mut plant, (pre + entry.gap).into());
+    report_all(&mut plant, boom::DOWN);
+    assert_eq!(at(&plant, 0), (phase::ALL_DOWN, 0));
+    plant
+}
+
+/// Every boom reports this.
+pub fn report_all(plant: &mut Plant, value: u8) {
+    for b in 0..plant.site.entries[0].booms() {
+        take(plant, &[[8, 0, b, value]]);
+    }
+}
+
+/// After a closure, with M left and no train there.
+pub fn pausing(kind: u8, pre: u16, pause: u16) -> Plant {
+    let mut plant = closed(kind, pre, pause);
+    take(&mut plant, &[[2, 0, 0, 0]]);
+    report_all(&mut plant, boom::UP);
+    assert_eq!(at(&plant, 0), (phase::OPEN, 0));
+    assert_eq!(plant.crossings[0].left, pause);
     plant
 }

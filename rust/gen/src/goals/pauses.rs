@@ -1,0 +1,58 @@
+//! What the time for motorists should reach (document 02, T-06).
+
+use super::{Goal, CALLS, WITH_PLANT};
+use crate::coverage::Coverage;
+use crate::paused::{PauseMet, BOOKS, HANDED};
+
+/// The refusals that depend on the crossing.
+const REFUSALS: [usize; 4] = [10, 11, 12, 13];
+
+impl Coverage {
+    pub(super) fn pause_goals(&self) -> Vec<Goal> {
+        let mut goals = Vec::new();
+        let mut goal = |group, name, count| goals.push(Goal::once(group, name, count));
+        let pauses = &self.pauses;
+        for (met, name, [first, last]) in PauseMet::ALL {
+            for kind in first..=last {
+                let count = pauses.met(met, kind);
+                goal("pause, kind:event", format!("{kind}:{name}"), count);
+            }
+        }
+        for kind in 1..=4 {
+            // Kind 1 has no boom.
+            for code in (0..10).filter(|code| (kind, *code) != (1, 8)) {
+                let count = pauses.codes[kind][code];
+                goal("pause, kind:code", format!("{kind}:{code}"), count);
+            }
+        }
+        for (kind, n) in (1..=4).flat_map(|kind| REFUSALS.map(|n| (kind, n))) {
+            let count = pauses.refused[kind][n];
+            goal("pause, kind:number", format!("{kind}:{n}"), count);
+        }
+        goals.extend(self.pause_ranges());
+        goals
+    }
+
+    /// Ticks left and M around their bounds, in plants and in books.
+    fn pause_ranges(&self) -> Vec<Goal> {
+        let mut goals = Vec::new();
+        let mut goal = |group, name, count| goals.push(Goal::once(group, name, count));
+        for call in WITH_PLANT.map(|call| call as usize) {
+            for (name, count) in HANDED.iter().zip(self.pauses.handed[call]) {
+                goal("left, handed", format!("{} {name}", CALLS[call]), count);
+            }
+        }
+        let groups = ["book read, kind:M", "book written, kind:M"];
+        for (group, counts) in groups.into_iter().zip(&self.pauses.books) {
+            for (kind, counts) in counts.iter().enumerate().skip(1) {
+                for (pause, count) in BOOKS.iter().zip(counts) {
+                    goal(group, format!("{kind}:{pause}"), *count);
+                }
+            }
+        }
+        for (n, count) in self.pauses.old.iter().enumerate().skip(1) {
+            goal("book without M, n", format!("{n}"), *count);
+        }
+        goals
+    }
+}
