@@ -1,15 +1,16 @@
-/* Wilzhoram, the level-crossing engine: its six calls for C. Link libwilzhoram.a (rt staticlib wilzhoram), x86-64.
+/* Wilzhoram, the level-crossing engine: its seven calls for C. Link libwilzhoram.a (rt staticlib wilzhoram), x86-64.
  *
  * Every call ends on every input and answers with a number: 0 taken, otherwise a refusal of the table in README.md.
  * A refused call gives back the plant it was given and zero counts, and leaves every lent byte as it was.
  * Every field of a plant, settings or event may hold any value: a plant with one outside its range is number 15,
  * settings to write 2 or 3, an event 5 to 8; so may a sender, 16 (T-04). Padding bytes are no part of a plant: they count nowhere and are not kept.
  * Number 9, full track, occurs nowhere: a strike-in at 255 trains is taken (T-01, docs/notes/T-01.md).
- * A null pointer with length 0 is an empty slice and gets its number. A sheet and a panel must not overlap.
+ * A null pointer with length 0 is an empty slice and gets its number. A sheet and a panel must not overlap; two sheets may.
  * Every call is reentrant, keeps no state and allocates nothing. */
 #ifndef WILZHORAM_H
 #define WILZHORAM_H
 
+#include <stdbool.h>
 #include <stddef.h>
 #include <stdint.h>
 
@@ -102,6 +103,13 @@ typedef struct {
     uint32_t written;        /* trains written off, summed over the events */
 } wilzhoram_run_result;
 
+/* What two sheets of one shift give (T-07). */
+typedef struct {
+    uint8_t number;
+    bool agreed;
+    uint16_t stretch; /* not agreed: the first stretch that fails, from 0; otherwise 0 */
+} wilzhoram_agreement;
+
 /* Reads a site book: its fresh plant, or number 1, 2 or 3 and the fresh plant of an all-zero site. */
 wilzhoram_reading wilzhoram_read(const uint8_t *book, size_t length);
 
@@ -123,6 +131,10 @@ wilzhoram_preview_result wilzhoram_preview(wilzhoram_plant plant, uint8_t sender
 wilzhoram_run_result wilzhoram_run(wilzhoram_plant plant, const uint8_t *sheet, size_t sheet_length, uint8_t *panel,
                                    size_t panel_length);
 
+/* Compares the hut's sheet of a shift with the cabin's, stretch by stretch between ticks (T-07, docs/notes/T-07.md): agreed or
+ * not, or number 2 or 4, the hut's before the cabin's, or 18, a sheet of more than 256 events. A refusal is not agreed. */
+wilzhoram_agreement wilzhoram_agree(const uint8_t *hut, size_t hut_length, const uint8_t *cabin, size_t cabin_length);
+
 /* The stack that a call needs, in bytes: the room for its result and arguments by value, and all that it uses below them.
  * Measured by ci/boundary on a thread with a painted stack, over every number and event code, and rounded up. The C
  * library's memory functions, all that a call calls, are bound when the program starts (-z now, or linked statically). */
@@ -132,6 +144,7 @@ wilzhoram_run_result wilzhoram_run(wilzhoram_plant plant, const uint8_t *sheet, 
 #define WILZHORAM_STACK_DRAW 1280
 #define WILZHORAM_STACK_PREVIEW 3904
 #define WILZHORAM_STACK_RUN 3264
+#define WILZHORAM_STACK_AGREE 3264
 
 #ifdef __cplusplus
 }

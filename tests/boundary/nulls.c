@@ -50,6 +50,23 @@ static void runs(const wilzhoram_plant *plant, const wilzhoram_plant *spoilt) {
     expect_run(spoilt, whole, 2, 0, SPOILT);
 }
 
+/* T-07: the hut's number comes first; with a length of 0 each is torn, 4. */
+static void expect_agree(const uint8_t *hut, size_t hut_length, const uint8_t *cabin, size_t cabin_length, unsigned wanted) {
+    wilzhoram_agreement agreement = wilzhoram_agree(hut, hut_length, cabin, cabin_length);
+    expect("agree", agreement.number, wanted);
+    if (agreement.agreed || agreement.stretch != 0)
+        fail("agree: refused, and agreed or with a stretch");
+}
+
+static void agreements(void) {
+    static const uint8_t whole[2], long_sheet[2] = {1, 16};
+    expect_agree(NULL, 0, NULL, 0, 4);
+    expect_agree(whole, 2, NULL, 0, 4);
+    expect_agree(NULL, 0, whole, 2, 4);
+    expect_agree(NULL, 0, long_sheet, 2, 4);
+    expect_agree(long_sheet, 2, NULL, 0, 2);
+}
+
 int main(void) {
     static const wilzhoram_plant zero;
     wilzhoram_plant plant = random_fresh(3), spoilt = plant;
@@ -68,6 +85,7 @@ int main(void) {
     expect("draw", wilzhoram_draw(spoilt, 4, NULL, 0), SPOILT);
     previews(&plant, &spoilt);
     runs(&plant, &spoilt);
+    agreements();
     printf("boundary: %u calls with a null pointer of length 0, each with its number\n", calls);
     return 0;
 }

@@ -1,11 +1,13 @@
 /* The plays: loops over inputs made before, in which nothing is called but the engine. */
 #include "plays.h"
+#include <string.h>
 
-enum { PLANTS = 320, BOOKS = 200, SHEETS = 8 };
+enum { PLANTS = 320, BOOKS = 200, SHEETS = 8, SHIFTS = 12 };
 
 static wilzhoram_plant plants[PLANTS];
 static uint8_t books[BOOKS][BOOK_MOST], sheets[SHEETS][SHEET_MOST], lent[PANEL_MOST];
-static size_t book_lengths[BOOKS], sheet_lengths[SHEETS];
+static uint8_t shifts[SHIFTS][SHEET_MOST];
+static size_t book_lengths[BOOKS], sheet_lengths[SHEETS], shift_lengths[SHIFTS];
 unsigned met;
 
 typedef struct {
@@ -15,6 +17,7 @@ typedef struct {
     uint8_t (*draw)(wilzhoram_plant, uint8_t, uint8_t *, size_t);
     wilzhoram_preview_result (*preview)(wilzhoram_plant, uint8_t, wilzhoram_event_bytes, uint8_t *, size_t);
     wilzhoram_run_result (*run)(wilzhoram_plant, const uint8_t *, size_t, uint8_t *, size_t);
+    wilzhoram_agreement (*agree)(const uint8_t *, size_t, const uint8_t *, size_t);
 } engine;
 
 static wilzhoram_reading idle_read(const uint8_t *book, size_t length) {
@@ -49,9 +52,14 @@ static wilzhoram_run_result idle_run(wilzhoram_plant plant, const uint8_t *sheet
     return run;
 }
 
-static const engine idle_engine = {idle_read, idle_write, idle_event, idle_draw, idle_preview, idle_run};
+static wilzhoram_agreement idle_agree(const uint8_t *hut, size_t hut_length, const uint8_t *cabin, size_t cabin_length) {
+    wilzhoram_agreement agreement = {hut == cabin && hut_length == cabin_length, false, 0};
+    return agreement;
+}
+
+static const engine idle_engine = {idle_read, idle_write, idle_event, idle_draw, idle_preview, idle_run, idle_agree};
 static const engine real_engine = {wilzhoram_read, wilzhoram_write, wilzhoram_event, wilzhoram_draw, wilzhoram_preview,
-                                   wilzhoram_run};
+                                   wilzhoram_run, wilzhoram_agree};
 static const engine *volatile now; /* volatile: the compiler makes one code for both */
 
 void use_engine(bool real) {
@@ -112,6 +120,13 @@ static void play_run(void) {
                 met |= 1u << (now->run(plants[i], sheets[k], sheet_lengths[k], lent, length).number & 31);
 }
 
+/* Each sheet against each. */
+static void play_agree(void) {
+    for (int i = 0; i < SHIFTS; i++)
+        for (int k = 0; k < SHIFTS; k++)
+            met |= 1u << (now->agree(shifts[i], shift_lengths[i], shifts[k], shift_lengths[k]).number & 31);
+}
+
 #define UP(size) (((size) + 7) / 8 * 8)
 #define PLANT UP(sizeof(wilzhoram_plant))
 
@@ -122,6 +137,7 @@ const measured calls[CALLS] = {
     {&of_draw, play_draw, PLANT, WILZHORAM_STACK_DRAW},
     {&of_preview, play_preview, PLANT, WILZHORAM_STACK_PREVIEW},
     {&of_run, play_run, UP(sizeof(wilzhoram_run_result)) + PLANT, WILZHORAM_STACK_RUN},
+    {&of_agree, play_agree, 0, WILZHORAM_STACK_AGREE},
 };
 
 /* n from 1 to 8 in turn, each plant after a random sheet; some are then spoilt, some have a full track, some an unsure one
@@ -164,7 +180,20 @@ static void make_files(void) {
     sheets[SHEETS - 1][0] = 1; /* size 4,097 */
 }
 
+/* Sheets of a shift (T-07): of any size about 256, one twice, one of ticks alone, torn and over-long. */
+static void make_shifts(void) {
+    static const unsigned events[SHIFTS] = {0, 1, 40, 255, 256, 256, 256, 256, 257, 4096, 30, 4096};
+    for (int i = 0; i < SHIFTS; i++)
+        shift_lengths[i] = random_sheet(shifts[i], events[i], 8);
+    memcpy(shifts[5], shifts[4], shift_lengths[4]);
+    memset(shifts[6] + 2, 0, 4 * 256);
+    memset(shifts[7] + 2, 1, 4 * 256);
+    shift_lengths[10]--;
+    shifts[11][0] = 1; /* size 4,097 */
+}
+
 void make_inputs(void) {
     make_plants();
     make_files();
+    make_shifts();
 }

@@ -107,6 +107,14 @@ pub struct Run {
     pub written: u32,
 }
 
+// What the hut's sheet against the cabin's returns (document 02, T-07).
+#[repr(C)]
+pub struct Agreement {
+    pub number: u8,
+    pub agreed: bool,
+    pub stretch: u16,
+}
+
 impl Crossing {
     // The release countdown begins here, in ticks.
     pub const RELEASE: u16 = 270;

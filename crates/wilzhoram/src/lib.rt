@@ -1,5 +1,6 @@
-// The engine for programs in C and Rust: the six calls of include/wilzhoram.h, each thin over the call that does the work.
+// The engine for programs in C and Rust: the seven calls of include/wilzhoram.h, each thin over the call that does the work.
 // Any plant, any settings, any sender (T-04), any bytes; a refused call leaves every lent byte.
+use machine::Agreement;
 use machine::Answer;
 use machine::Event;
 use machine::Plant;
@@ -12,6 +13,7 @@ ghost use Rattle.machine.specs.Events.{sent};
 ghost use Rattle.machine.specs.Panel.{draw-number, drawn};
 ghost use Rattle.machine.specs.Preview.{preview-number, preview-written, preview-panel};
 ghost use Rattle.machine.specs.Sheet.{run, run-panel};
+ghost use Rattle.machine.specs.Shift.{agree};
 ghost use Rattle.machine.specs.SiteBook.{read, write-number, written-book};
 ghost use Rattle.machine.specs.Step.{step};
 
@@ -72,4 +74,12 @@ pub extern "C" fn wilzhoram_run(plant: Plant, sheet: &[u8], panel: &mut [u8]) ->
     ensures bytes { λ _. ⌜ now (panel .exit) ≡ run-panel plant (now (sheet .entry)) (now (panel .entry)) ⌝ }
 {
     sheet::run(plant, sheet, panel)
+}
+
+// The hut's sheet of a shift against the cabin's (T-07): whether they agree, or the first stretch that fails.
+#[no_mangle]
+pub extern "C" fn wilzhoram_agree(hut: &[u8], cabin: &[u8]) -> Agreement
+    ensures { λ r. ⌜ r ≡ agree (now (hut .entry)) (now (cabin .entry)) ⌝ }
+{
+    agree::agree(hut, cabin)
 }

@@ -2,8 +2,10 @@
 //!
 //! Both run the same sheets of 4,096 events over eight crossings, one after the other in
 //! every round, and every output is compared. Then the proved preview's time, over that of an
-//! event and a drawing and over that of the plain preview. bench [ROUNDS]
+//! event and a drawing and over that of the plain preview; then that of two sheets compared.
+//! bench [ROUNDS]
 
+mod agreements;
 mod previews;
 mod sheets;
 
@@ -71,7 +73,7 @@ fn main() -> ExitCode {
         println!("{name:<10} {ticks:>6} {taken:>6} {codes:>12} {least:>8.2} {median:>7.2}");
     }
     println!("every output equal in every round");
-    match previews::print(rounds) {
+    match previews::print(rounds) && agreements::print(rounds) {
         true => ExitCode::SUCCESS,
         false => ExitCode::FAILURE,
     }

@@ -1,6 +1,7 @@
 //! Cases with a part of another left out or lowered.
 
 mod lower;
+mod sheets;
 
 use crate::case::Case;
 use crate::Command;
@@ -10,6 +11,7 @@ use lower::{
     can_go, lower_commands, lower_moments, lower_plants, lower_senders, lower_sites, plant_without,
     renumber, renumber_command, shorter_bytes, shorter_frames, site_without,
 };
+use sheets::agree_candidates;
 
 /// The cases one step away from a case.
 pub(crate) fn candidates(case: &Case) -> Vec<Case> {
@@ -39,6 +41,7 @@ pub(crate) fn candidates(case: &Case) -> Vec<Case> {
             frame,
         } => preview_candidates(plant, *command, frame),
         Case::Session { site, commands } => session_candidates(site, commands),
+        Case::Agree { hut, cabin } => agree_candidates(hut, cabin),
     }
 }
 

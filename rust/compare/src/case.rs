@@ -6,12 +6,14 @@ use crate::Command;
 use engine::{book_len, in_range, panel_len, Plant, Site, MAX_EVENTS};
 use gen::{
     book, coherent, damaged_book, damaged_sheet, event, frame, junk_event, mixed, plant, played,
-    preview_frame, quick_site, sheet_bytes, site, spoilt_plant, swept_event, swept_plant,
+    preview_frame, quick_site, sheet_bytes, shift, site, spoilt_plant, swept_event, swept_plant,
     BookDamage, Rng, Senders, SheetDamage, Spoil,
 };
 
 /// Takes the previews' numbers apart from those of the cases beside them.
 const PREVIEWS: u64 = 0x7072_6576_6965_7773;
+/// And those of the pairs of sheets.
+const SHIFTS: u64 = 0x7368_6966_7473_5f5f;
 
 /// An input; frames hold the bytes lent.
 #[derive(Clone, PartialEq, Debug)]
@@ -47,6 +49,11 @@ pub enum Case {
         site: Site,
         commands: Vec<Command>,
     },
+    /// Two sheets of one shift.
+    Agree {
+        hut: Vec<u8>,
+        cabin: Vec<u8>,
+    },
 }
 
 impl Case {
@@ -72,6 +79,12 @@ impl Case {
         preview_case(&mut Rng::of_case(seed, index), senders)
     }
 
+    /// The two sheets beside case `index` under `seed`.
+    pub fn agree(seed: u64, index: u64) -> Case {
+        let [hut, cabin] = shift(&mut Rng::of_case(seed ^ SHIFTS, index));
+        Case::Agree { hut, cabin }
+    }
+
     /// Session `index` under `seed`.
     pub fn session(seed: u64, index: u64) -> Case {
         let senders = &mut Senders::of_case(seed, index);
@@ -87,6 +100,7 @@ impl Case {
             Case::Run { .. } => "run",
             Case::Preview { .. } => "preview",
             Case::Session { .. } => "session",
+            Case::Agree { .. } => "agree",
         }
     }
 }

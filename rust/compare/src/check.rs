@@ -1,5 +1,6 @@
 //! Puts one case to both engines and looks for a difference.
 
+mod agreements;
 mod previews;
 mod senders;
 mod sessions;
@@ -64,6 +65,7 @@ impl Pair<'_> {
                 self.preview(plant, *command, frame, seen)
             }
             Case::Session { site, commands } => self.session(site, commands, seen),
+            Case::Agree { hut, cabin } => self.agree(hut, cabin, seen),
         }
     }
 

@@ -1,6 +1,6 @@
 //! The plain engine, as it is and with planted faults.
 
-use crate::{Command, Engine, Plant, Run, Site};
+use crate::{Agreement, Command, Engine, Plant, Run, Site};
 use faults::Fault;
 
 /// The plain engine.
@@ -34,6 +34,10 @@ impl Engine for Plain {
     fn run(&self, plant: &mut Plant, sheet: &[u8], panel: &mut [u8]) -> Run {
         engine::run(plant, sheet, panel)
     }
+
+    fn agree(&self, hut: &[u8], cabin: &[u8]) -> Agreement {
+        engine::agree(hut, cabin)
+    }
 }
 
 /// The plain engine with a planted fault.
@@ -66,5 +70,9 @@ impl Engine for Planted {
 
     fn run(&self, plant: &mut Plant, sheet: &[u8], panel: &mut [u8]) -> Run {
         (self.0.calls.run)(plant, sheet, panel)
+    }
+
+    fn agree(&self, hut: &[u8], cabin: &[u8]) -> Agreement {
+        (self.0.calls.agree)(hut, cabin)
     }
 }

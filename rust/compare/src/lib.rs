@@ -11,10 +11,10 @@ pub mod second;
 pub mod shrink;
 pub mod stack;
 
-pub use engine::{Plant, Run, Site};
+pub use engine::{Agreement, Plant, Run, Site};
 pub use gen::Command;
 
-/// The six calls of a crossing engine.
+/// The seven calls of a crossing engine.
 pub trait Engine {
     fn name(&self) -> String;
     fn read_book(&self, book: &[u8]) -> (u8, Plant);
@@ -23,4 +23,5 @@ pub trait Engine {
     fn draw(&self, plant: &Plant, sender: u8, panel: &mut [u8]) -> u8;
     fn preview(&self, plant: &Plant, command: Command, panel: &mut [u8]) -> (u8, u32);
     fn run(&self, plant: &mut Plant, sheet: &[u8], panel: &mut [u8]) -> Run;
+    fn agree(&self, hut: &[u8], cabin: &[u8]) -> Agreement;
 }

@@ -165,12 +165,11 @@ fn show(options: &Options, pair: Pair, difference: &Difference) {
     }
 }
 
-/// Writes the files that `crossing` can be run on.
+/// Writes the files that `crossing` can be run on, or the two sheets of a shift.
 fn write_files(dir: &str, case: &Case) {
-    let (site, sheet) = files(case);
-    for (name, bytes) in [("site.bin", site), ("sheet.bin", sheet)] {
+    for (name, bytes) in files(case) {
         let path = std::path::Path::new(dir).join(name);
-        if let Some(Err(error)) = bytes.map(|bytes| std::fs::write(&path, bytes)) {
+        if let Err(error) = std::fs::write(&path, bytes) {
             eprintln!("{}: {error}", path.display());
         }
     }

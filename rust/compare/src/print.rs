@@ -1,4 +1,4 @@
-//! A case as text, with the bytes of site.bin and sheet.bin.
+//! A case as text, with the bytes of its files.
 
 use crate::case::Case;
 use engine::{Crossing, Entry, Plant, Site};
@@ -10,10 +10,11 @@ pub fn hex(bytes: &[u8]) -> String {
     words.join(" ")
 }
 
-/// The bytes of site.bin and sheet.bin for a case, as far as it has them.
-pub fn files(case: &Case) -> (Option<Vec<u8>>, Option<Vec<u8>>) {
+/// The names and bytes of a case's files, as far as it has them: site.bin and sheet.bin, or the two
+/// sheets of a shift.
+pub fn files(case: &Case) -> Vec<(&'static str, Vec<u8>)> {
     let book = |site: &Site| (site.n <= 8).then(|| book_bytes(site));
-    match case {
+    let (site, sheet) = match case {
         Case::Read { book } => (Some(book.clone()), None),
         Case::Write { site, .. } => (book(site), None),
         Case::Event { plant, command } | Case::Preview { plant, command, .. } => {
@@ -25,7 +26,13 @@ pub fn files(case: &Case) -> (Option<Vec<u8>>, Option<Vec<u8>>) {
             let events: Vec<[u8; 4]> = commands.iter().map(|c| c.event).collect();
             (book(site), Some(sheet_bytes(&events)))
         }
-    }
+        Case::Agree { hut, cabin } => {
+            return vec![("hut.bin", hut.clone()), ("cabin.bin", cabin.clone())];
+        }
+    };
+    let site = site.map(|bytes| ("site.bin", bytes));
+    let sheet = sheet.map(|bytes| ("sheet.bin", bytes));
+    site.into_iter().chain(sheet).collect()
 }
 
 /// The senders of a case in turn; a sheet has none.
@@ -38,12 +45,18 @@ fn senders(case: &Case) -> Vec<u8> {
     }
 }
 
+/// How many events a sheet has room for.
+fn room(sheet: &[u8]) -> usize {
+    sheet.len().saturating_sub(2) / 4
+}
+
 /// How many events a case has.
 pub fn event_count(case: &Case) -> usize {
     match case {
         Case::Event { .. } | Case::Preview { .. } => 1,
-        Case::Run { sheet, .. } => sheet.len().saturating_sub(2) / 4,
+        Case::Run { sheet, .. } => room(sheet),
         Case::Session { commands, .. } => commands.len(),
+        Case::Agree { hut, cabin } => room(hut) + room(cabin),
         _ => 0,
     }
 }
@@ -93,12 +106,8 @@ pub fn is_fresh(case: &Case) -> bool {
 /// Everything needed to play a case again.
 pub fn text(case: &Case) -> String {
     let mut text = format!("{}\n", case.name());
-    let (site, sheet) = files(case);
-    if let Some(site) = site {
-        let _ = writeln!(text, "site.bin  {}", hex(&site));
-    }
-    if let Some(sheet) = sheet {
-        let _ = writeln!(text, "sheet.bin {}", hex(&sheet));
+    for (name, bytes) in files(case) {
+        let _ = writeln!(text, "{name:<9} {}", hex(&bytes));
     }
     let senders = senders(case);
     if !senders.is_empty() {
@@ -114,6 +123,7 @@ pub fn text(case: &Case) -> String {
         Some(plant) if !is_fresh(case) => {
             let _ = write!(text, "from      {}", plant_text(plant));
         }
+        _ if matches!(case, Case::Agree { .. }) => {}
         _ => text.push_str("from      the fresh plant\n"),
     }
     text

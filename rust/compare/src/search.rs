@@ -53,13 +53,14 @@ pub struct Outcome {
 }
 
 impl Plan {
-    /// A session, or any case and a preview beside it.
+    /// A session, or any case and beside it a preview and two sheets.
     fn cases(&self, index: u64) -> Vec<Case> {
         match self.sessions {
             true => vec![Case::session(self.seed, index)],
             false => vec![
                 Case::make(self.seed, index),
                 Case::preview(self.seed, index),
+                Case::agree(self.seed, index),
             ],
         }
     }

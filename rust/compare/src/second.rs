@@ -2,7 +2,7 @@
 
 use crate::stack::Stack;
 use crate::{Command, Engine};
-use engine::{Crossing, Entry, Plant, Run, Site};
+use engine::{Agreement, Crossing, Entry, Plant, Run, Site};
 
 /// The proved engine, on the thread's whole stack or on the last bytes of it.
 #[derive(Default)]
@@ -63,6 +63,10 @@ impl Engine for Proved {
             written_off: run.written,
         }
     }
+
+    fn agree(&self, hut: &[u8], cabin: &[u8]) -> Agreement {
+        plain_agreement(self.call(|| wilzhoram::agree(hut, cabin)))
+    }
 }
 
 /// The same fields in the other engine's type.
@@ -85,6 +89,10 @@ macro_rules! crossing {
             phase, timer, left, out
         })
     };
+}
+
+fn plain_agreement(agreement: wilzhoram::Agreement) -> Agreement {
+    fields!(agreement => Agreement { number, agreed, stretch })
 }
 
 fn proved_site(site: &Site) -> wilzhoram::Site {

@@ -92,6 +92,7 @@ fn weight(case: &Case) -> u64 {
         Case::Session { site, commands } => {
             site_weight(site) + commands.iter().map(command_weight).sum::<u64>()
         }
+        Case::Agree { hut, cabin } => bytes_weight(hut) + bytes_weight(cabin),
     }
 }
 

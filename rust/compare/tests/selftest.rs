@@ -13,9 +13,12 @@ use gen::{flags, Coverage};
 const CASES: u64 = 10_000;
 const SESSIONS: u64 = 400;
 
-/// Faults that no list of events from a fresh plant can show: in the lent frames, in books that are
-/// refused, in spoilt plants, and a repeated hold, since a hold stands in the way of a running
-/// countdown.
+/// Faults in the comparison of two sheets begin so; no list of events shows one.
+const AGREE: &str = "agree_";
+
+/// Other faults that no list of events from a fresh plant can show: in the lent frames, in books
+/// that are refused, in spoilt plants, and a repeated hold, since a hold stands in the way of a
+/// running countdown.
 const NOT_FROM_FRESH: [&str; 45] = [
     "book_any_gap",
     "book_frame_first",
@@ -90,7 +93,8 @@ fn sessions_alone_find_what_shows_from_fresh() {
         sessions: true,
         ..Plan::of_cases(4, SESSIONS)
     };
-    let missed = FAULTS.iter().filter(|f| find_fault(f, plan).is_none());
+    let others = FAULTS.iter().filter(|f| !f.name.starts_with(AGREE));
+    let missed = others.filter(|f| find_fault(f, plan).is_none());
     let missed: Vec<&str> = missed.map(|f| f.name).collect();
     assert_eq!(missed, NOT_FROM_FRESH);
 }
@@ -103,7 +107,10 @@ fn has_wide_flag(case: &Case) -> bool {
 
 #[test]
 fn some_faults_show_by_flags_above_1_only() {
-    let cases = (0..CASES).flat_map(|index| [Case::make(1, index), Case::preview(1, index)]);
+    let cases = (0..CASES).flat_map(|index| {
+        let beside = [Case::preview(1, index), Case::agree(1, index)];
+        [Case::make(1, index)].into_iter().chain(beside)
+    });
     let cases: Vec<Case> = cases.chain(Case::fixed()).collect();
     let (wide, others): (Vec<Case>, Vec<Case>) = cases.into_iter().partition(has_wide_flag);
     let unseen = &mut Coverage::new();

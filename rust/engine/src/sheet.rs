@@ -6,8 +6,8 @@ use super::range::in_range;
 use super::rights::Source;
 use super::types::{number, Plant, Run, MAX_EVENTS};
 
-/// The codes and the triples of a sheet.
-pub fn sheet_parts(sheet: &[u8]) -> Result<(&[u8], &[u8]), u8> {
+/// The events of a sheet in turn.
+pub fn sheet_events(sheet: &[u8]) -> Result<impl ExactSizeIterator<Item = [u8; 4]> + '_, u8> {
     let &[low, high, ref rest @ ..] = sheet else {
         return Err(number::TORN_SHEET);
     };
@@ -18,7 +18,9 @@ pub fn sheet_parts(sheet: &[u8]) -> Result<(&[u8], &[u8]), u8> {
     if rest.len() != 4 * m {
         return Err(number::TORN_SHEET);
     }
-    Ok(rest.split_at(m))
+    let (codes, triples) = rest.split_at(m);
+    let pairs = codes.iter().zip(triples.chunks_exact(3));
+    Ok(pairs.map(|(code, triple)| [*code, triple[0], triple[1], triple[2]]))
 }
 
 /// Applies each event of a sheet in turn, with every right, and draws the whole panel.
@@ -26,16 +28,15 @@ pub fn run(plant: &mut Plant, sheet: &[u8], panel: &mut [u8]) -> Run {
     if !in_range(plant) {
         return Run::answer(number::SPOILT_PLANT);
     }
-    let (codes, triples) = match sheet_parts(sheet) {
-        Ok(parts) => parts,
+    let events = match sheet_events(sheet) {
+        Ok(events) => events,
         Err(refusal) => return Run::answer(refusal),
     };
     if panel.len() != panel_len(plant.site.n) {
         return Run::answer(number::WRONG_FRAME);
     }
     let mut run = Run::answer(number::TAKEN);
-    for (code, triple) in codes.iter().zip(triples.chunks_exact(3)) {
-        let event = [*code, triple[0], triple[1], triple[2]];
+    for event in events {
         match apply(plant, Source::Sheet, event) {
             Ok(written_off) => {
                 run.taken += 1;

@@ -25,6 +25,8 @@ pub mod number {
     /// Document 02, T-04, as the next.
     pub const UNKNOWN_SENDER: u8 = 16;
     pub const NO_RIGHT: u8 = 17;
+    /// Document 02, T-07.
+    pub const SHIFT_TOO_LONG: u8 = 18;
 }
 
 /// The event codes.
@@ -236,4 +238,14 @@ impl Run {
             written_off: 0,
         }
     }
+}
+
+/// The answer of a comparison of two sheets (document 02, T-07).
+#[repr(C)]
+#[derive(Clone, Copy, PartialEq, Debug)]
+pub struct Agreement {
+    pub number: u8,
+    pub agreed: bool,
+    /// The first stretch that fails, counted from 0; 0 where none does.
+    pub stretch: u16,
 }

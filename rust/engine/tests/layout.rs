@@ -1,6 +1,6 @@
 //! The layout of the types, as another language sees them.
 
-use engine::{Crossing, Entry, Plant, Run, Site};
+use engine::{Agreement, Crossing, Entry, Plant, Run, Site};
 use std::mem::{offset_of, size_of};
 
 #[test]
@@ -10,6 +10,7 @@ fn sizes() {
     assert_eq!(size_of::<Crossing>(), 42);
     assert_eq!(size_of::<Plant>(), 420);
     assert_eq!(size_of::<Run>(), 16);
+    assert_eq!(size_of::<Agreement>(), 4);
 }
 
 #[test]
@@ -30,4 +31,6 @@ fn offsets() {
     assert_eq!(offset_of!(Crossing, left), 38);
     assert_eq!(offset_of!(Crossing, out), 40);
     assert_eq!(offset_of!(Run, taken), 4);
+    assert_eq!(offset_of!(Agreement, agreed), 1);
+    assert_eq!(offset_of!(Agreement, stretch), 2);
 }

@@ -4,12 +4,12 @@
 #[cfg(test)]
 mod edit;
 
-use engine::{Plant, Run, Site};
+use engine::{Agreement, Plant, Run, Site};
 
 /// A number and the trains written off.
 type Answer = (u8, u32);
 
-/// The six calls of one engine; a `u8` is the sender.
+/// The seven calls of one engine; a `u8` is the sender.
 #[derive(Clone, Copy)]
 pub struct Calls {
     pub read_book: fn(&[u8]) -> (u8, Plant),
@@ -18,6 +18,7 @@ pub struct Calls {
     pub draw: fn(&Plant, u8, &mut [u8]) -> u8,
     pub preview: fn(&Plant, u8, [u8; 4], &mut [u8]) -> Answer,
     pub run: fn(&mut Plant, &[u8], &mut [u8]) -> Run,
+    pub agree: fn(&[u8], &[u8]) -> Agreement,
 }
 
 /// One planted fault.
@@ -42,6 +43,7 @@ macro_rules! fault {
                 draw: $name::panel::draw,
                 preview: $name::preview::preview,
                 run: $name::sheet::run,
+                agree: $name::agree::agree,
             },
         }
     };

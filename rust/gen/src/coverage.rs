@@ -1,5 +1,6 @@
 //! Counters of what a set of inputs reached.
 
+use crate::agreed::AgreeCounts;
 use crate::booms::BoomBytes;
 use crate::flags::FlagBytes;
 use crate::lost_met::LostCounts;
@@ -8,9 +9,9 @@ use crate::previewed::PreviewCounts;
 use crate::senders::{sees_all, Command};
 use crate::sent::SenderCounts;
 use crate::unsure::UnsureCounts;
-use engine::{boom, code, event, number, phase, Crossing, Plant, Site, PANEL};
+use engine::{boom, code, event, number, phase, Agreement, Crossing, Plant, Site, PANEL};
 
-/// The six calls.
+/// The seven calls.
 #[derive(Clone, Copy, PartialEq, Debug)]
 pub enum Call {
     ReadBook,
@@ -19,6 +20,7 @@ pub enum Call {
     Draw,
     Run,
     Preview,
+    Agree,
 }
 
 /// Room for every number of an answer, and some more.
@@ -38,7 +40,7 @@ pub(crate) fn own_answer(plant: &Plant, command: Command) -> (u8, u32) {
 /// What was reached, and how often.
 #[derive(Clone, Default)]
 pub struct Coverage {
-    pub(crate) calls: [[u64; NUMBERS]; 6],
+    pub(crate) calls: [[u64; NUMBERS]; 7],
     pub(crate) codes: [[u64; NUMBERS]; 11],
     pub(crate) phases: [[u64; 5]; 5],
     pub(crate) moves: [[u64; 5]; 5],
@@ -54,6 +56,7 @@ pub struct Coverage {
     pub(crate) pauses: PauseCounts,
     pub(crate) previews: PreviewCounts,
     pub(crate) senders: SenderCounts,
+    pub(crate) agrees: AgreeCounts,
 }
 
 /// How often a byte had each value.
@@ -212,6 +215,12 @@ impl Coverage {
         self.senders.in_list(sender, number);
     }
 
+    /// Two sheets compared with this answer.
+    pub fn agree(&mut self, hut: &[u8], cabin: &[u8], answer: Agreement) {
+        self.call(Call::Agree, answer.number);
+        self.agrees.pair(hut, cabin, answer);
+    }
+
     /// Adds what another run of cases reached.
     pub fn add(&mut self, other: &Coverage) {
         sums(self.calls.as_flattened_mut(), other.calls.as_flattened());
@@ -232,6 +241,7 @@ impl Coverage {
         self.pauses.add(&other.pauses);
         self.previews.add(&other.previews);
         self.senders.add(&other.senders);
+        self.agrees.add(&other.agrees);
         self.panels += other.panels;
     }
 }

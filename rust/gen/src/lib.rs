@@ -2,6 +2,7 @@
 //!
 //! Everything follows from the seed alone, so a case is the same on every machine.
 
+mod agreed;
 mod books;
 mod booms;
 mod bytes;
@@ -21,7 +22,10 @@ mod rng;
 mod senders;
 mod sent;
 mod sheets;
+mod shift_grid;
+mod shifts;
 mod spoilt;
+mod stretches;
 mod swept;
 mod traffic;
 mod unsure;
@@ -42,6 +46,8 @@ pub use rights::{right_grid, right_previews, views};
 pub use rng::Rng;
 pub use senders::{hide, sees_all, Command, Senders, KNOWN};
 pub use sheets::{damaged_sheet, sheet_bytes, sheet_events, SheetDamage};
+pub use shift_grid::shift_grid;
+pub use shifts::{shift, Shift};
 pub use spoilt::{spoilt_plant, Spoil};
 pub use swept::{swept_event, swept_grid, swept_plant};
 pub use traffic::{coherent, mixed, played};

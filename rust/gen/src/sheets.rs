@@ -13,9 +13,7 @@ pub fn sheet_bytes(events: &[[u8; 4]]) -> Vec<u8> {
 
 /// The events of a good sheet.
 pub fn sheet_events(sheet: &[u8]) -> Option<Vec<[u8; 4]>> {
-    let (codes, triples) = engine::sheet_parts(sheet).ok()?;
-    let pairs = codes.iter().zip(triples.chunks_exact(3));
-    Some(pairs.map(|(c, t)| [*c, t[0], t[1], t[2]]).collect())
+    Some(engine::sheet_events(sheet).ok()?.collect())
 }
 
 /// The ways a sheet is damaged.

@@ -1,6 +1,6 @@
-//! The proved engine's six calls; include/wilzhoram.h says what each does. The types are
-//! laid out as there, and every byte pattern is a value of each: what is out of range, the
-//! calls refuse.
+//! The proved engine's seven calls; include/wilzhoram.h says what each does. The types are
+//! laid out as there, and every byte pattern is a value of each that a call is handed: what is
+//! out of range, the calls refuse.
 
 /// The settings of one crossing. `pause` is M, the ticks for motorists between two closures, 0 to
 /// 540 at every kind (T-06).
@@ -125,9 +125,19 @@ pub struct Run {
     pub written: u32,
 }
 
+/// What the comparison of two sheets gives (T-07). `stretch` is the first that fails, counted from
+/// 0; 0 where the sheets agree or the call is refused.
+#[repr(C)]
+#[derive(Clone, Copy, PartialEq, Debug)]
+pub struct Agreement {
+    pub number: u8,
+    pub agreed: bool,
+    pub stretch: u16,
+}
+
 /// A slice goes as its first byte and its length.
 mod c {
-    use super::{Answer, Event, Plant, Preview, Reading, Run, Site};
+    use super::{Agreement, Answer, Event, Plant, Preview, Reading, Run, Site};
 
     extern "C" {
         pub fn wilzhoram_read(book: *const u8, length: usize) -> Reading;
@@ -148,6 +158,12 @@ mod c {
             panel: *mut u8,
             panel_length: usize,
         ) -> Run;
+        pub fn wilzhoram_agree(
+            hut: *const u8,
+            hut_length: usize,
+            cabin: *const u8,
+            cabin_length: usize,
+        ) -> Agreement;
     }
 }
 
@@ -188,4 +204,12 @@ pub fn run(plant: Plant, sheet: &[u8], panel: &mut [u8]) -> Run {
     let (events, out) = (sheet.as_ptr(), panel.as_mut_ptr());
     // SAFETY: as in `read`; a lent panel and a lent sheet never overlap.
     unsafe { c::wilzhoram_run(plant, events, sheet.len(), out, panel.len()) }
+}
+
+/// Compares the hut's sheet with the cabin's, stretch by stretch between ticks (T-07). One of more
+/// than 256 events gets number 18.
+pub fn agree(hut: &[u8], cabin: &[u8]) -> Agreement {
+    let (first, second) = (hut.as_ptr(), cabin.as_ptr());
+    // SAFETY: as in `read`; both sheets are only read, and may overlap or be the same.
+    unsafe { c::wilzhoram_agree(first, hut.len(), second, cabin.len()) }
 }
