@@ -1,10 +1,11 @@
-/* Wilzhoram, the level-crossing engine: its seven calls for C. Link libwilzhoram.a (rt staticlib wilzhoram), x86-64.
+/* Wilzhoram, the level-crossing engine: its eight calls for C. Link libwilzhoram.a (rt staticlib wilzhoram), x86-64.
  *
  * Every call ends on every input and answers with a number: 0 taken, otherwise a refusal of the table in README.md.
  * A refused call gives back the plant it was given and zero counts, and leaves every lent byte as it was.
  * Every field of a plant, settings or event may hold any value: a plant with one outside its range is number 15,
  * settings to write 2 or 3, an event 5 to 8; so may a sender, 16 (T-04). Padding bytes are no part of a plant: they count nowhere and are not kept.
  * Number 9, full track, occurs nowhere: a strike-in at 255 trains is taken (T-01, docs/notes/T-01.md).
+ * A speed, a retardation and a gradient may hold any value of their types too: 19 to 21 (T-08).
  * A null pointer with length 0 is an empty slice and gets its number. A sheet and a panel must not overlap; two sheets may.
  * Every call is reentrant, keeps no state and allocates nothing. */
 #ifndef WILZHORAM_H
@@ -110,6 +111,12 @@ typedef struct {
     uint16_t stretch; /* not agreed: the first stretch that fails, from 0; otherwise 0 */
 } wilzhoram_agreement;
 
+/* What a board distance gives (T-08). */
+typedef struct {
+    uint8_t number;
+    uint16_t distance; /* metres, a multiple of 10, 10 to 2,810; refused: 0 */
+} wilzhoram_distance;
+
 /* Reads a site book: its fresh plant, or number 1, 2 or 3 and the fresh plant of an all-zero site. */
 wilzhoram_reading wilzhoram_read(const uint8_t *book, size_t length);
 
@@ -135,6 +142,11 @@ wilzhoram_run_result wilzhoram_run(wilzhoram_plant plant, const uint8_t *sheet, 
  * not, or number 2 or 4, the hut's before the cabin's, or 18, a sheet of more than 256 events. A refusal is not agreed. */
 wilzhoram_agreement wilzhoram_agree(const uint8_t *hut, size_t hut_length, const uint8_t *cabin, size_t cabin_length);
 
+/* The distance of an arrow board from the crossing, up to a full 10 m, by the formula of source document 000, section 3.4.3
+ * (T-08, docs/notes/T-08.md): speed in km/h, retardation in mm/s2, gradient in per mille, a fall towards the crossing negative.
+ * 0, or number 19, speed not 1 to 120, 20, retardation not 500 to 1,500, or 21, gradient not -30 to 30, in that order. */
+wilzhoram_distance wilzhoram_board_distance(uint16_t speed, uint16_t retardation, int16_t gradient);
+
 /* The stack that a call needs, in bytes: the room for its result and arguments by value, and all that it uses below them.
  * Measured by ci/boundary on a thread with a painted stack, over every number and event code, and rounded up. The C
  * library's memory functions, all that a call calls, are bound when the program starts (-z now, or linked statically). */
@@ -145,6 +157,7 @@ wilzhoram_agreement wilzhoram_agree(const uint8_t *hut, size_t hut_length, const
 #define WILZHORAM_STACK_PREVIEW 3904
 #define WILZHORAM_STACK_RUN 3264
 #define WILZHORAM_STACK_AGREE 3264
+#define WILZHORAM_STACK_BOARD_DISTANCE 64
 
 #ifdef __cplusplus
 }

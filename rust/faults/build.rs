@@ -14,8 +14,10 @@ use std::{env, fs};
 /// The engine's folder, from here and in an edit.
 const ENGINE: &str = "../engine/src";
 const IN_EDITS: &str = "rust/engine/src";
-/// The modules with the seven calls.
-const CALLS: [&str; 6] = ["agree", "book", "events", "panel", "preview", "sheet"];
+/// The modules with the eight calls.
+const CALLS: [&str; 7] = [
+    "agree", "board", "book", "events", "panel", "preview", "sheet",
+];
 /// Shared by all, so that their plants are of one type.
 const TYPES: &str = "types";
 
@@ -47,7 +49,7 @@ fn edited(modules: &Modules, edit: &Edit) -> Result<Modules, String> {
         let name = Path::new(&change.file).strip_prefix(IN_EDITS).ok();
         let name = name.and_then(|file| file.to_str()?.strip_suffix(".rs"));
         let module = name.and_then(|name| modules.get_mut(name));
-        let module = module.ok_or(format!("no module of the seven calls: {}", change.file))?;
+        let module = module.ok_or(format!("no module of the eight calls: {}", change.file))?;
         *module = replace(module, change)?;
     }
     Ok(modules)

@@ -4,7 +4,7 @@
 
 #include "wilzhoram.h"
 
-enum { BOOK_MOST = 1 + 9 * 8, SHEET_MOST = 2 + 4 * 4096, PANEL_MOST = 16 * 8, SPOILT = 15, UNKNOWN = 16, NUMBERS = 19 };
+enum { BOOK_MOST = 1 + 9 * 8, SHEET_MOST = 2 + 4 * 4096, PANEL_MOST = 16 * 8, SPOILT = 15, UNKNOWN = 16, NUMBERS = 22 };
 
 /* range.c: document 01, "Site book" and "What the plant holds"; document 02, T-01 and T-06. */
 unsigned settings_number(const wilzhoram_site *site); /* 0, 2 or 3 */
@@ -29,7 +29,7 @@ typedef struct {
     unsigned long met[NUMBERS];
 } tally;
 
-extern tally of_read, of_write, of_event, of_draw, of_preview, of_run, of_agree;
+extern tally of_read, of_write, of_event, of_draw, of_preview, of_run, of_agree, of_board;
 
 _Noreturn void fail(const char *format, ...);
 void answered(tally *call, unsigned number); /* fails on a number that the call may not answer */

@@ -18,6 +18,7 @@ typedef struct {
     wilzhoram_preview_result (*preview)(wilzhoram_plant, uint8_t, wilzhoram_event_bytes, uint8_t *, size_t);
     wilzhoram_run_result (*run)(wilzhoram_plant, const uint8_t *, size_t, uint8_t *, size_t);
     wilzhoram_agreement (*agree)(const uint8_t *, size_t, const uint8_t *, size_t);
+    wilzhoram_distance (*board_distance)(uint16_t, uint16_t, int16_t);
 } engine;
 
 static wilzhoram_reading idle_read(const uint8_t *book, size_t length) {
@@ -57,9 +58,15 @@ static wilzhoram_agreement idle_agree(const uint8_t *hut, size_t hut_length, con
     return agreement;
 }
 
-static const engine idle_engine = {idle_read, idle_write, idle_event, idle_draw, idle_preview, idle_run, idle_agree};
-static const engine real_engine = {wilzhoram_read, wilzhoram_write, wilzhoram_event, wilzhoram_draw, wilzhoram_preview,
-                                   wilzhoram_run, wilzhoram_agree};
+static wilzhoram_distance idle_board_distance(uint16_t speed, uint16_t retardation, int16_t gradient) {
+    wilzhoram_distance distance = {speed == retardation && gradient == 0, 0};
+    return distance;
+}
+
+static const engine idle_engine = {idle_read,    idle_write, idle_event, idle_draw,
+                                   idle_preview, idle_run,   idle_agree, idle_board_distance};
+static const engine real_engine = {wilzhoram_read,    wilzhoram_write, wilzhoram_event, wilzhoram_draw,
+                                   wilzhoram_preview, wilzhoram_run,   wilzhoram_agree, wilzhoram_board_distance};
 static const engine *volatile now; /* volatile: the compiler makes one code for both */
 
 void use_engine(bool real) {
@@ -127,6 +134,14 @@ static void play_agree(void) {
             met |= 1u << (now->agree(shifts[i], shift_lengths[i], shifts[k], shift_lengths[k]).number & 31);
 }
 
+/* About each bound (T-08), and far outside. */
+static void play_board_distance(void) {
+    static const uint16_t speeds[] = {0, 1, 60, 120, 121, 65535}, retardations[] = {0, 499, 500, 1500, 1501, 65535};
+    static const int16_t gradients[] = {INT16_MIN, -31, -30, 0, 30, 31, INT16_MAX};
+    for (unsigned i = 0; i < 6 * 6 * 7; i++)
+        met |= 1u << (now->board_distance(speeds[i / 42], retardations[i / 7 % 6], gradients[i % 7]).number & 31);
+}
+
 #define UP(size) (((size) + 7) / 8 * 8)
 #define PLANT UP(sizeof(wilzhoram_plant))
 
@@ -138,6 +153,7 @@ const measured calls[CALLS] = {
     {&of_preview, play_preview, PLANT, WILZHORAM_STACK_PREVIEW},
     {&of_run, play_run, UP(sizeof(wilzhoram_run_result)) + PLANT, WILZHORAM_STACK_RUN},
     {&of_agree, play_agree, 0, WILZHORAM_STACK_AGREE},
+    {&of_board, play_board_distance, 0, WILZHORAM_STACK_BOARD_DISTANCE},
 };
 
 /* n from 1 to 8 in turn, each plant after a random sheet; some are then spoilt, some have a full track, some an unsure one

@@ -1,5 +1,5 @@
 /* The numbers of each call (document 01, "Numbers at the hut"; document 02, T-01 for 9, T-03 for the preview, T-04 for 16 and 17,
- * T-07 for 18), and which were met. */
+ * T-07 for 18, T-08 for 19 to 21), and which were met. */
 #include "boundary.h"
 #include <stdarg.h>
 #include <stdio.h>
@@ -12,6 +12,7 @@ tally of_draw = {"draw", 1u | 7u << 14, {0}};                            /* 14 t
 tally of_preview = {"preview", 1u | 0xfu << 5 | 0xffu << 10, {0}};       /* 5 to 8 and 10 to 17 */
 tally of_run = {"run", 1u | 1u << 2 | 1u << 4 | 1u << 14 | 1u << 15, {0}};
 tally of_agree = {"agree", 1u | 1u << 2 | 1u << 4 | 1u << 18, {0}};
+tally of_board = {"board distance", 1u | 7u << 19, {0}}; /* 19 to 21 */
 
 void fail(const char *format, ...) {
     va_list rest;

@@ -115,6 +115,21 @@ pub struct Agreement {
     pub stretch: u16,
 }
 
+// What a board distance returns (document 02, T-08), in metres.
+#[repr(C)]
+pub struct BoardDistance {
+    pub number: u8,
+    pub distance: u16,
+}
+
+// A cell of the printed table of board distances (document 02, T-08) with what it is for: km/h, mm/s2, per mille, metres.
+pub struct BoardCell {
+    pub speed: u16,
+    pub retardation: u16,
+    pub gradient: i16,
+    pub distance: u16,
+}
+
 impl Crossing {
     // The release countdown begins here, in ticks.
     pub const RELEASE: u16 = 270;

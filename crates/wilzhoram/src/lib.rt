@@ -1,7 +1,8 @@
-// The engine for programs in C and Rust: the seven calls of include/wilzhoram.h, each thin over the call that does the work.
+// The engine for programs in C and Rust: the eight calls of include/wilzhoram.h, each thin over the call that does the work.
 // Any plant, any settings, any sender (T-04), any bytes; a refused call leaves every lent byte.
 use machine::Agreement;
 use machine::Answer;
+use machine::BoardDistance;
 use machine::Event;
 use machine::Plant;
 use machine::Preview;
@@ -9,6 +10,7 @@ use machine::Reading;
 use machine::Run;
 use machine::Site;
 ghost use mathlib.Core.Path.{_≡_};
+ghost use Rattle.machine.specs.Board.{board-distance};
 ghost use Rattle.machine.specs.Events.{sent};
 ghost use Rattle.machine.specs.Panel.{draw-number, drawn};
 ghost use Rattle.machine.specs.Preview.{preview-number, preview-written, preview-panel};
@@ -82,4 +84,16 @@ pub extern "C" fn wilzhoram_agree(hut: &[u8], cabin: &[u8]) -> Agreement
     ensures { λ r. ⌜ r ≡ agree (now (hut .entry)) (now (cabin .entry)) ⌝ }
 {
     agree::agree(hut, cabin)
+}
+
+// The distance of an arrow board in metres (T-08): speed in km/h, retardation in mm/s2, gradient in per mille, a fall negative.
+#[no_mangle]
+pub extern "C" fn wilzhoram_board_distance(
+    speed: u16,
+    retardation: u16,
+    gradient: i16,
+) -> BoardDistance
+    ensures { λ r. ⌜ r ≡ board-distance speed retardation gradient ⌝ }
+{
+    board::distance(speed, retardation, gradient)
 }

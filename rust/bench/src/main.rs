@@ -2,10 +2,11 @@
 //!
 //! Both run the same sheets of 4,096 events over eight crossings, one after the other in
 //! every round, and every output is compared. Then the proved preview's time, over that of an
-//! event and a drawing and over that of the plain preview; then that of two sheets compared.
-//! bench [ROUNDS]
+//! event and a drawing and over that of the plain preview; then that of two sheets compared, and of
+//! the distance of an arrow board. bench [ROUNDS]
 
 mod agreements;
+mod boards;
 mod previews;
 mod sheets;
 
@@ -73,7 +74,7 @@ fn main() -> ExitCode {
         println!("{name:<10} {ticks:>6} {taken:>6} {codes:>12} {least:>8.2} {median:>7.2}");
     }
     println!("every output equal in every round");
-    match previews::print(rounds) && agreements::print(rounds) {
+    match previews::print(rounds) && agreements::print(rounds) && boards::print(rounds) {
         true => ExitCode::SUCCESS,
         false => ExitCode::FAILURE,
     }

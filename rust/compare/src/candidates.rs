@@ -1,10 +1,12 @@
 //! Cases with a part of another left out or lowered.
 
+mod boards;
 mod lower;
 mod sheets;
 
 use crate::case::Case;
 use crate::Command;
+use boards::board_candidates;
 use engine::{Plant, Site};
 use gen::{book_bytes, sheet_bytes, sheet_events};
 use lower::{
@@ -42,6 +44,7 @@ pub(crate) fn candidates(case: &Case) -> Vec<Case> {
         } => preview_candidates(plant, *command, frame),
         Case::Session { site, commands } => session_candidates(site, commands),
         Case::Agree { hut, cabin } => agree_candidates(hut, cabin),
+        Case::Board(board) => board_candidates(*board),
     }
 }
 

@@ -5,15 +5,17 @@ mod fixed;
 use crate::Command;
 use engine::{book_len, in_range, panel_len, Plant, Site, MAX_EVENTS};
 use gen::{
-    book, coherent, damaged_book, damaged_sheet, event, frame, junk_event, mixed, plant, played,
-    preview_frame, quick_site, sheet_bytes, shift, site, spoilt_plant, swept_event, swept_plant,
-    BookDamage, Rng, Senders, SheetDamage, Spoil,
+    board, book, coherent, damaged_book, damaged_sheet, event, frame, junk_event, mixed, plant,
+    played, preview_frame, quick_site, sheet_bytes, shift, site, spoilt_plant, swept_event,
+    swept_plant, Board, BookDamage, Rng, Senders, SheetDamage, Spoil,
 };
 
 /// Takes the previews' numbers apart from those of the cases beside them.
 const PREVIEWS: u64 = 0x7072_6576_6965_7773;
 /// And those of the pairs of sheets.
 const SHIFTS: u64 = 0x7368_6966_7473_5f5f;
+/// And those of the arrow boards.
+const BOARDS: u64 = 0x626f_6172_6473_5f5f;
 
 /// An input; frames hold the bytes lent.
 #[derive(Clone, PartialEq, Debug)]
@@ -54,6 +56,8 @@ pub enum Case {
         hut: Vec<u8>,
         cabin: Vec<u8>,
     },
+    /// The distance of an arrow board.
+    Board(Board),
 }
 
 impl Case {
@@ -85,6 +89,11 @@ impl Case {
         Case::Agree { hut, cabin }
     }
 
+    /// The arrow board beside case `index` under `seed`.
+    pub fn board(seed: u64, index: u64) -> Case {
+        Case::Board(board(&mut Rng::of_case(seed ^ BOARDS, index)))
+    }
+
     /// Session `index` under `seed`.
     pub fn session(seed: u64, index: u64) -> Case {
         let senders = &mut Senders::of_case(seed, index);
@@ -101,6 +110,7 @@ impl Case {
             Case::Preview { .. } => "preview",
             Case::Session { .. } => "session",
             Case::Agree { .. } => "agree",
+            Case::Board(_) => "board distance",
         }
     }
 }

@@ -1,6 +1,7 @@
 //! Puts one case to both engines and looks for a difference.
 
 mod agreements;
+mod boards;
 mod previews;
 mod senders;
 mod sessions;
@@ -66,6 +67,7 @@ impl Pair<'_> {
             }
             Case::Session { site, commands } => self.session(site, commands, seen),
             Case::Agree { hut, cabin } => self.agree(hut, cabin, seen),
+            Case::Board(board) => self.board(*board, seen),
         }
     }
 

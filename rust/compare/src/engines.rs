@@ -1,6 +1,6 @@
 //! The plain engine, as it is and with planted faults.
 
-use crate::{Agreement, Command, Engine, Plant, Run, Site};
+use crate::{Agreement, Board, BoardDistance, Command, Engine, Plant, Run, Site};
 use faults::Fault;
 
 /// The plain engine.
@@ -38,6 +38,10 @@ impl Engine for Plain {
     fn agree(&self, hut: &[u8], cabin: &[u8]) -> Agreement {
         engine::agree(hut, cabin)
     }
+
+    fn board_distance(&self, board: Board) -> BoardDistance {
+        engine::board_distance(board.speed, board.retardation, board.gradient)
+    }
 }
 
 /// The plain engine with a planted fault.
@@ -74,5 +78,9 @@ impl Engine for Planted {
 
     fn agree(&self, hut: &[u8], cabin: &[u8]) -> Agreement {
         (self.0.calls.agree)(hut, cabin)
+    }
+
+    fn board_distance(&self, board: Board) -> BoardDistance {
+        (self.0.calls.board_distance)(board.speed, board.retardation, board.gradient)
     }
 }

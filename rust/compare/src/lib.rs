@@ -11,10 +11,10 @@ pub mod second;
 pub mod shrink;
 pub mod stack;
 
-pub use engine::{Agreement, Plant, Run, Site};
-pub use gen::Command;
+pub use engine::{Agreement, BoardDistance, Plant, Run, Site};
+pub use gen::{Board, Command};
 
-/// The seven calls of a crossing engine.
+/// The eight calls of a crossing engine.
 pub trait Engine {
     fn name(&self) -> String;
     fn read_book(&self, book: &[u8]) -> (u8, Plant);
@@ -24,4 +24,5 @@ pub trait Engine {
     fn preview(&self, plant: &Plant, command: Command, panel: &mut [u8]) -> (u8, u32);
     fn run(&self, plant: &mut Plant, sheet: &[u8], panel: &mut [u8]) -> Run;
     fn agree(&self, hut: &[u8], cabin: &[u8]) -> Agreement;
+    fn board_distance(&self, board: Board) -> BoardDistance;
 }

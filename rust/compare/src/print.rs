@@ -2,7 +2,7 @@
 
 use crate::case::Case;
 use engine::{Crossing, Entry, Plant, Site};
-use gen::{book_bytes, sheet_bytes};
+use gen::{book_bytes, sheet_bytes, Board};
 use std::fmt::Write;
 
 pub fn hex(bytes: &[u8]) -> String {
@@ -11,7 +11,7 @@ pub fn hex(bytes: &[u8]) -> String {
 }
 
 /// The names and bytes of a case's files, as far as it has them: site.bin and sheet.bin, or the two
-/// sheets of a shift.
+/// sheets of a shift; an arrow board has none.
 pub fn files(case: &Case) -> Vec<(&'static str, Vec<u8>)> {
     let book = |site: &Site| (site.n <= 8).then(|| book_bytes(site));
     let (site, sheet) = match case {
@@ -29,6 +29,7 @@ pub fn files(case: &Case) -> Vec<(&'static str, Vec<u8>)> {
         Case::Agree { hut, cabin } => {
             return vec![("hut.bin", hut.clone()), ("cabin.bin", cabin.clone())];
         }
+        Case::Board(_) => return vec![],
     };
     let site = site.map(|bytes| ("site.bin", bytes));
     let sheet = sheet.map(|bytes| ("sheet.bin", bytes));
@@ -98,6 +99,15 @@ fn plant_text(plant: &Plant) -> String {
     text
 }
 
+fn board_text(board: &Board) -> String {
+    let Board {
+        speed,
+        retardation,
+        gradient,
+    } = board;
+    format!("{speed} km/h, {retardation} mm/s2, {gradient:+} per mille\n")
+}
+
 /// Whether a case starts from a fresh plant.
 pub fn is_fresh(case: &Case) -> bool {
     start(case).is_none_or(|plant| *plant == Plant::fresh(&plant.site))
@@ -119,11 +129,14 @@ pub fn text(case: &Case) -> String {
     if let Case::Write { site, .. } = case {
         let _ = writeln!(text, "settings  {site:?}");
     }
+    if let Case::Board(board) = case {
+        text.push_str(&board_text(board));
+    }
     match start(case) {
         Some(plant) if !is_fresh(case) => {
             let _ = write!(text, "from      {}", plant_text(plant));
         }
-        _ if matches!(case, Case::Agree { .. }) => {}
+        _ if matches!(case, Case::Agree { .. } | Case::Board(_)) => {}
         _ => text.push_str("from      the fresh plant\n"),
     }
     text

@@ -53,7 +53,7 @@ pub struct Outcome {
 }
 
 impl Plan {
-    /// A session, or any case and beside it a preview and two sheets.
+    /// A session, or any case and beside it a preview, two sheets and an arrow board.
     fn cases(&self, index: u64) -> Vec<Case> {
         match self.sessions {
             true => vec![Case::session(self.seed, index)],
@@ -61,6 +61,7 @@ impl Plan {
                 Case::make(self.seed, index),
                 Case::preview(self.seed, index),
                 Case::agree(self.seed, index),
+                Case::board(self.seed, index),
             ],
         }
     }
@@ -73,9 +74,14 @@ impl Plan {
 
 /// Compares over the fixed cases.
 pub fn search_fixed(pair: Pair) -> Outcome {
+    search_among(pair, Case::fixed().chain(Case::boards()))
+}
+
+/// Compares over these cases.
+pub fn search_among(pair: Pair, mut list: impl Iterator<Item = Case>) -> Outcome {
     let mut seen = Coverage::new();
     let mut cases = 0;
-    let differs = Case::fixed().find(|case| {
+    let differs = list.find(|case| {
         cases += 1;
         pair.check(case, &mut seen).is_err()
     });
@@ -147,6 +153,13 @@ pub struct Found {
     pub cases: u64,
     pub time: Duration,
     pub difference: Difference,
+}
+
+/// Whether a list of events can show a fault. None compares two sheets or places an arrow board;
+/// the names of faults there begin with the call.
+pub fn is_in_lists(fault: &Fault) -> bool {
+    let apart = ["agree_", "board_"];
+    !apart.iter().any(|call| fault.name.starts_with(call))
 }
 
 /// Looks for a fault planted in the plain engine, against the proved one. What the plan's

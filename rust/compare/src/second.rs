@@ -1,8 +1,8 @@
 //! The proved engine, which the plain one is compared with.
 
 use crate::stack::Stack;
-use crate::{Command, Engine};
-use engine::{Agreement, Crossing, Entry, Plant, Run, Site};
+use crate::{Board, Command, Engine};
+use engine::{Agreement, BoardDistance, Crossing, Entry, Plant, Run, Site};
 
 /// The proved engine, on the thread's whole stack or on the last bytes of it.
 #[derive(Default)]
@@ -67,6 +67,15 @@ impl Engine for Proved {
     fn agree(&self, hut: &[u8], cabin: &[u8]) -> Agreement {
         plain_agreement(self.call(|| wilzhoram::agree(hut, cabin)))
     }
+
+    fn board_distance(&self, board: Board) -> BoardDistance {
+        let Board {
+            speed,
+            retardation,
+            gradient,
+        } = board;
+        plain_distance(self.call(|| wilzhoram::board_distance(speed, retardation, gradient)))
+    }
 }
 
 /// The same fields in the other engine's type.
@@ -93,6 +102,10 @@ macro_rules! crossing {
 
 fn plain_agreement(agreement: wilzhoram::Agreement) -> Agreement {
     fields!(agreement => Agreement { number, agreed, stretch })
+}
+
+fn plain_distance(distance: wilzhoram::BoardDistance) -> BoardDistance {
+    fields!(distance => BoardDistance { number, distance })
 }
 
 fn proved_site(site: &Site) -> wilzhoram::Site {

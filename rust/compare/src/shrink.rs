@@ -4,7 +4,7 @@ use crate::candidates::candidates;
 use crate::case::Case;
 use crate::Command;
 use engine::{Crossing, Entry, Plant, Site};
-use gen::{sheet_bytes, sheet_events};
+use gen::{sheet_bytes, sheet_events, Board};
 
 /// Whether a case still fails.
 pub type Fails<'a> = &'a mut dyn FnMut(&Case) -> bool;
@@ -69,6 +69,14 @@ fn command_weight(command: &Command) -> u64 {
     bytes_weight(&command.event) + wrong + u64::from(command.sender)
 }
 
+/// What is out of its range weighs more than all that is in it, and a fall more than a rise.
+fn board_weight(board: Board) -> u64 {
+    let out = board.places().iter().filter(|place| **place != 1).count();
+    let slope = 2 * u64::from(board.gradient.unsigned_abs()) + u64::from(board.gradient < 0);
+    let numbers = u64::from(board.speed) + u64::from(board.retardation) + slope;
+    10_000 * out as u64 + numbers
+}
+
 fn weight(case: &Case) -> u64 {
     match case {
         Case::Read { book } => bytes_weight(book),
@@ -93,6 +101,7 @@ fn weight(case: &Case) -> u64 {
             site_weight(site) + commands.iter().map(command_weight).sum::<u64>()
         }
         Case::Agree { hut, cabin } => bytes_weight(hut) + bytes_weight(cabin),
+        Case::Board(board) => board_weight(*board),
     }
 }
 

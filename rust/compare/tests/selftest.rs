@@ -4,7 +4,8 @@ use compare::case::Case;
 use compare::check::Pair;
 use compare::engines::{Plain, Planted};
 use compare::print::{start, text};
-use compare::search::{find_fault, reduce, search, search_fixed, Plan};
+use compare::search::{find_fault, is_in_lists, reduce, search};
+use compare::search::{search_among, search_fixed, Plan};
 use compare::second::Proved;
 use compare::{Command, Plant, Site};
 use faults::FAULTS;
@@ -13,12 +14,9 @@ use gen::{flags, Coverage};
 const CASES: u64 = 10_000;
 const SESSIONS: u64 = 400;
 
-/// Faults in the comparison of two sheets begin so; no list of events shows one.
-const AGREE: &str = "agree_";
-
-/// Other faults that no list of events from a fresh plant can show: in the lent frames, in books
-/// that are refused, in spoilt plants, and a repeated hold, since a hold stands in the way of a
-/// running countdown.
+/// Faults in calls of a list of events that no such list from a fresh plant can show: in the lent
+/// frames, in books that are refused, in spoilt plants, and a repeated hold, since a hold stands in
+/// the way of a running countdown.
 const NOT_FROM_FRESH: [&str; 45] = [
     "book_any_gap",
     "book_frame_first",
@@ -93,8 +91,8 @@ fn sessions_alone_find_what_shows_from_fresh() {
         sessions: true,
         ..Plan::of_cases(4, SESSIONS)
     };
-    let others = FAULTS.iter().filter(|f| !f.name.starts_with(AGREE));
-    let missed = others.filter(|f| find_fault(f, plan).is_none());
+    let in_lists = FAULTS.iter().filter(|f| is_in_lists(f));
+    let missed = in_lists.filter(|f| find_fault(f, plan).is_none());
     let missed: Vec<&str> = missed.map(|f| f.name).collect();
     assert_eq!(missed, NOT_FROM_FRESH);
 }
@@ -108,8 +106,12 @@ fn has_wide_flag(case: &Case) -> bool {
 #[test]
 fn some_faults_show_by_flags_above_1_only() {
     let cases = (0..CASES).flat_map(|index| {
-        let beside = [Case::preview(1, index), Case::agree(1, index)];
-        [Case::make(1, index)].into_iter().chain(beside)
+        [
+            Case::make(1, index),
+            Case::preview(1, index),
+            Case::agree(1, index),
+            Case::board(1, index),
+        ]
     });
     let cases: Vec<Case> = cases.chain(Case::fixed()).collect();
     let (wide, others): (Vec<Case>, Vec<Case>) = cases.into_iter().partition(has_wide_flag);
@@ -176,7 +178,8 @@ fn both_engines_with_the_same_fault() {
         };
         let of_these = BY_ITSELF.iter().any(|name| fault.name.starts_with(name));
         let seeded = || search(pair, Plan::of_cases(1, CASES), &mut |_, _| {});
-        of_these && seeded().difference.is_none() && search_fixed(pair).difference.is_none()
+        let fixed = || search_among(pair, Case::fixed());
+        of_these && seeded().difference.is_none() && fixed().difference.is_none()
     });
     let missed: Vec<&str> = missed.map(|fault| fault.name).collect();
     assert_eq!(missed, NOT_BY_ITSELF);

@@ -27,6 +27,10 @@ pub mod number {
     pub const NO_RIGHT: u8 = 17;
     /// Document 02, T-07.
     pub const SHIFT_TOO_LONG: u8 = 18;
+    /// Document 02, T-08, as the next two.
+    pub const SPEED_OUT_OF_RANGE: u8 = 19;
+    pub const RETARDATION_OUT_OF_RANGE: u8 = 20;
+    pub const GRADIENT_OUT_OF_RANGE: u8 = 21;
 }
 
 /// The event codes.
@@ -248,4 +252,13 @@ pub struct Agreement {
     pub agreed: bool,
     /// The first stretch that fails, counted from 0; 0 where none does.
     pub stretch: u16,
+}
+
+/// The answer to where the arrow board stands (document 02, T-08).
+#[repr(C)]
+#[derive(Clone, Copy, PartialEq, Debug)]
+pub struct BoardDistance {
+    pub number: u8,
+    /// Metres, a multiple of 10; 0 where the call is refused.
+    pub distance: u16,
 }

@@ -1,6 +1,6 @@
 //! The layout of the types, as another language sees them.
 
-use engine::{Agreement, Crossing, Entry, Plant, Run, Site};
+use engine::{Agreement, BoardDistance, Crossing, Entry, Plant, Run, Site};
 use std::mem::{offset_of, size_of};
 
 #[test]
@@ -11,6 +11,7 @@ fn sizes() {
     assert_eq!(size_of::<Plant>(), 420);
     assert_eq!(size_of::<Run>(), 16);
     assert_eq!(size_of::<Agreement>(), 4);
+    assert_eq!(size_of::<BoardDistance>(), 4);
 }
 
 #[test]
@@ -33,4 +34,6 @@ fn offsets() {
     assert_eq!(offset_of!(Run, taken), 4);
     assert_eq!(offset_of!(Agreement, agreed), 1);
     assert_eq!(offset_of!(Agreement, stretch), 2);
+    assert_eq!(offset_of!(BoardDistance, number), 0);
+    assert_eq!(offset_of!(BoardDistance, distance), 2);
 }

@@ -4,12 +4,12 @@
 #[cfg(test)]
 mod edit;
 
-use engine::{Agreement, Plant, Run, Site};
+use engine::{Agreement, BoardDistance, Plant, Run, Site};
 
 /// A number and the trains written off.
 type Answer = (u8, u32);
 
-/// The seven calls of one engine; a `u8` is the sender.
+/// The eight calls of one engine; a `u8` is the sender.
 #[derive(Clone, Copy)]
 pub struct Calls {
     pub read_book: fn(&[u8]) -> (u8, Plant),
@@ -19,6 +19,7 @@ pub struct Calls {
     pub preview: fn(&Plant, u8, [u8; 4], &mut [u8]) -> Answer,
     pub run: fn(&mut Plant, &[u8], &mut [u8]) -> Run,
     pub agree: fn(&[u8], &[u8]) -> Agreement,
+    pub board_distance: fn(u16, u16, i16) -> BoardDistance,
 }
 
 /// One planted fault.
@@ -44,6 +45,7 @@ macro_rules! fault {
                 preview: $name::preview::preview,
                 run: $name::sheet::run,
                 agree: $name::agree::agree,
+                board_distance: $name::board::board_distance,
             },
         }
     };

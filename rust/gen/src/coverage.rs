@@ -1,6 +1,8 @@
 //! Counters of what a set of inputs reached.
 
 use crate::agreed::AgreeCounts;
+use crate::boarded::BoardCounts;
+use crate::boards::Board;
 use crate::booms::BoomBytes;
 use crate::flags::FlagBytes;
 use crate::lost_met::LostCounts;
@@ -9,9 +11,11 @@ use crate::previewed::PreviewCounts;
 use crate::senders::{sees_all, Command};
 use crate::sent::SenderCounts;
 use crate::unsure::UnsureCounts;
-use engine::{boom, code, event, number, phase, Agreement, Crossing, Plant, Site, PANEL};
+use engine::{
+    boom, code, event, number, phase, Agreement, BoardDistance, Crossing, Plant, Site, PANEL,
+};
 
-/// The seven calls.
+/// The eight calls.
 #[derive(Clone, Copy, PartialEq, Debug)]
 pub enum Call {
     ReadBook,
@@ -21,6 +25,7 @@ pub enum Call {
     Run,
     Preview,
     Agree,
+    Board,
 }
 
 /// Room for every number of an answer, and some more.
@@ -40,7 +45,7 @@ pub(crate) fn own_answer(plant: &Plant, command: Command) -> (u8, u32) {
 /// What was reached, and how often.
 #[derive(Clone, Default)]
 pub struct Coverage {
-    pub(crate) calls: [[u64; NUMBERS]; 7],
+    pub(crate) calls: [[u64; NUMBERS]; 8],
     pub(crate) codes: [[u64; NUMBERS]; 11],
     pub(crate) phases: [[u64; 5]; 5],
     pub(crate) moves: [[u64; 5]; 5],
@@ -57,6 +62,7 @@ pub struct Coverage {
     pub(crate) previews: PreviewCounts,
     pub(crate) senders: SenderCounts,
     pub(crate) agrees: AgreeCounts,
+    pub(crate) boards: BoardCounts,
 }
 
 /// How often a byte had each value.
@@ -221,6 +227,12 @@ impl Coverage {
         self.agrees.pair(hut, cabin, answer);
     }
 
+    /// A distance of the arrow board.
+    pub fn board(&mut self, board: Board, answer: BoardDistance) {
+        self.call(Call::Board, answer.number);
+        self.boards.board(board, answer);
+    }
+
     /// Adds what another run of cases reached.
     pub fn add(&mut self, other: &Coverage) {
         sums(self.calls.as_flattened_mut(), other.calls.as_flattened());
@@ -242,6 +254,7 @@ impl Coverage {
         self.previews.add(&other.previews);
         self.senders.add(&other.senders);
         self.agrees.add(&other.agrees);
+        self.boards.add(&other.boards);
         self.panels += other.panels;
     }
 }

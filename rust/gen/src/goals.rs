@@ -1,6 +1,7 @@
 //! What a set of inputs should reach, and the table of it.
 
 mod agreements;
+mod boards;
 mod pauses;
 mod previews;
 mod senders;
@@ -13,7 +14,7 @@ use crate::unsure::Met;
 use engine::{code, number, PANEL};
 use std::fmt::Write;
 
-const CALLS: [&str; 7] = [
+const CALLS: [&str; 8] = [
     "read book",
     "write book",
     "event",
@@ -21,9 +22,10 @@ const CALLS: [&str; 7] = [
     "run",
     "preview",
     "agree",
+    "board",
 ];
 /// The numbers each call can give.
-const CALL_NUMBERS: [&[u8]; 7] = [
+const CALL_NUMBERS: [&[u8]; 8] = [
     &[0, 1, 2, 3],
     &[0, 2, 3, 14],
     &[0, 5, 6, 7, 8, 10, 11, 12, 13, 15, 16, 17],
@@ -31,6 +33,7 @@ const CALL_NUMBERS: [&[u8]; 7] = [
     &[0, 2, 4, 14, 15],
     &[0, 5, 6, 7, 8, 10, 11, 12, 13, 14, 15, 16, 17],
     &[0, 2, 4, 18],
+    &[0, 19, 20, 21],
 ];
 const SIGNALS: [&str; 4] = ["road", "boom lamps", "train signal", "distant"];
 const RHYTHMS: [&str; 3] = ["slow", "fast", "steady"];
@@ -146,6 +149,7 @@ impl Coverage {
         goals.extend(self.preview_goals());
         goals.extend(self.sender_goals());
         goals.extend(self.agree_goals());
+        goals.extend(self.board_goals());
         goals.extend(self.rhythm_goals());
         goals.extend(self.bit_goals());
         goals.extend(self.byte_goals());
@@ -155,7 +159,7 @@ impl Coverage {
     fn number_goals(&self) -> Vec<Goal> {
         let mut goals = Vec::new();
         let mut goal = |group, name, count| goals.push(Goal::once(group, name, count));
-        for n in (0..=number::SHIFT_TOO_LONG).filter(|n| *n != number::FULL_TRACK) {
+        for n in (0..=number::GRADIENT_OUT_OF_RANGE).filter(|n| *n != number::FULL_TRACK) {
             let count = self.calls.iter().map(|c| c[usize::from(n)]).sum();
             goal("number", format!("{n}"), count);
         }

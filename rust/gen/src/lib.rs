@@ -3,6 +3,8 @@
 //! Everything follows from the seed alone, so a case is the same on every machine.
 
 mod agreed;
+mod boarded;
+mod boards;
 mod books;
 mod booms;
 mod bytes;
@@ -30,6 +32,7 @@ mod swept;
 mod traffic;
 mod unsure;
 
+pub use boards::{board, board_edges, board_grid, Board, FULL, IN_RANGE, NEAR_FULL};
 pub use books::{
     all_lengths, book, book_bytes, damaged_book, entry, frame, old_book, quick_site, site,
     BookDamage,

@@ -1,4 +1,4 @@
-//! The proved engine's seven calls; include/wilzhoram.h says what each does. The types are
+//! The proved engine's eight calls; include/wilzhoram.h says what each does. The types are
 //! laid out as there, and every byte pattern is a value of each that a call is handed: what is
 //! out of range, the calls refuse.
 
@@ -135,9 +135,18 @@ pub struct Agreement {
     pub stretch: u16,
 }
 
+/// What the distance of an arrow board gives (T-08): metres, a multiple of 10; 0 where the call is
+/// refused.
+#[repr(C)]
+#[derive(Clone, Copy, PartialEq, Debug)]
+pub struct BoardDistance {
+    pub number: u8,
+    pub distance: u16,
+}
+
 /// A slice goes as its first byte and its length.
 mod c {
-    use super::{Agreement, Answer, Event, Plant, Preview, Reading, Run, Site};
+    use super::{Agreement, Answer, BoardDistance, Event, Plant, Preview, Reading, Run, Site};
 
     extern "C" {
         pub fn wilzhoram_read(book: *const u8, length: usize) -> Reading;
@@ -164,6 +173,11 @@ mod c {
             cabin: *const u8,
             cabin_length: usize,
         ) -> Agreement;
+        pub fn wilzhoram_board_distance(
+            speed: u16,
+            retardation: u16,
+            gradient: i16,
+        ) -> BoardDistance;
     }
 }
 
@@ -212,4 +226,12 @@ pub fn agree(hut: &[u8], cabin: &[u8]) -> Agreement {
     let (first, second) = (hut.as_ptr(), cabin.as_ptr());
     // SAFETY: as in `read`; both sheets are only read, and may overlap or be the same.
     unsafe { c::wilzhoram_agree(first, hut.len(), second, cabin.len()) }
+}
+
+/// How far before a crossing its arrow board stands, up to a full 10 m (T-08): by the speed in km/h,
+/// the retardation in mm/s2 and the gradient in per mille, a fall negative. Number 19 for a speed
+/// that is not 1 to 120, 20 for a retardation not 500 to 1,500, 21 for a gradient not -30 to 30.
+pub fn board_distance(speed: u16, retardation: u16, gradient: i16) -> BoardDistance {
+    // SAFETY: all go by value, as numbers of these sizes.
+    unsafe { c::wilzhoram_board_distance(speed, retardation, gradient) }
 }

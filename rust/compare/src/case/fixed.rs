@@ -4,18 +4,20 @@ use super::Case;
 use crate::Command;
 use engine::{book_len, panel_len, sender, Plant};
 use gen::{
-    all_lengths, book_bytes, event_grid, every_boom, every_flag, every_left, every_pause,
-    lost_plants, lost_reports, old_book, pause_events, pause_plants, plant, preview_grid,
-    right_grid, right_previews, sheet_bytes, shift_grid, swept_grid, views, Rng,
+    all_lengths, board_edges, board_grid, book_bytes, event_grid, every_boom, every_flag,
+    every_left, every_pause, lost_plants, lost_reports, old_book, pause_events, pause_plants,
+    plant, preview_grid, right_grid, right_previews, sheet_bytes, shift_grid, swept_grid, views,
+    Rng,
 };
 
 impl Case {
-    /// Pairs of sheets; books of every length, a grid of events and frames of every length on a few
-    /// plants, swept counters at every kind, lost booms at every kind that has them, the time for
-    /// motorists at every kind, and every value of every flag and of every boom report; then grids
-    /// of previews; then of senders. In all but the last an event comes from one who may send it,
-    /// and a panel is drawn for detection.
+    /// Arrow boards around every bound; pairs of sheets; books of every length, a grid of events and
+    /// frames of every length on a few plants, swept counters at every kind, lost booms at every
+    /// kind that has them, the time for motorists at every kind, and every value of every flag and
+    /// of every boom report; then grids of previews; then of senders. In all but the last an event
+    /// comes from one who may send it, and a panel is drawn for detection.
     pub fn fixed() -> impl Iterator<Item = Case> {
+        let boards = board_edges().map(Case::Board);
         let sheets = shift_grid().map(|[hut, cabin]| Case::Agree { hut, cabin });
         let books = all_lengths().into_iter().map(|book| Case::Read { book });
         let rng = &mut Rng::new(0);
@@ -32,9 +34,16 @@ impl Case {
             [tick, draw]
         });
         let bytes = every_flag().chain(every_boom()).flat_map(calls);
-        let all = sheets.chain(books).chain(grids).chain(events).chain(lost);
+        let all = boards.chain(sheets).chain(books).chain(grids);
+        let all = all.chain(events).chain(lost);
         let all = all.chain(fixed_pauses()).chain(bytes);
         all.chain(fixed_previews()).chain(fixed_senders())
+    }
+
+    /// Every value of each number that an arrow board's distance is asked with, and all of its
+    /// inputs in range: millions, each of them quick.
+    pub fn boards() -> impl Iterator<Item = Case> {
+        board_grid().map(Case::Board)
     }
 }
 

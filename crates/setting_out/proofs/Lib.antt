@@ -1,0 +1,5 @@
+pub mod Rounded
+pub mod Cleared
+pub mod Ranges
+pub mod Table
+pub mod SettingOut
