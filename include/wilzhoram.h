@@ -21,10 +21,11 @@ extern "C" {
 
 /* The settings of one crossing. */
 typedef struct {
-    uint8_t kind;   /* 1 lights only, 2 half booms, 3 two full booms, 4 four full booms */
+    uint8_t kind;   /* 1 lights only, 2 half booms, 3 two full booms, 4 four full booms; under the 1959 sheet 5 lights only, 6 half
+                     * booms (T-09, docs/notes/T-09.md) */
     uint8_t tracks; /* 1 to 4 */
     uint8_t mask;   /* bit t set where track t depends on a route */
-    uint16_t pre;   /* F, pre-ringing in ticks, 1 to 180 */
+    uint16_t pre;   /* F, pre-ringing in ticks, 1 to 180; 15 for kind 6 */
     uint16_t gap;   /* G, right booms to left in ticks, 1 to 90 for kind 4, otherwise 0 */
     uint16_t pause; /* M, time for motorists between closures in ticks, 0 to 540 (T-06, docs/notes/T-06.md) */
 } wilzhoram_entry;
@@ -48,13 +49,14 @@ typedef struct {
     uint8_t route[4], occupied[4];  /* flags, by track */
     uint8_t unsure[4];              /* flags, by track: struck in at 255 trains, no time release completed since (T-01) */
     uint8_t booms[4];               /* last reports, WILZHORAM_BOOM_UP to WILZHORAM_BOOM_LOST */
-    uint8_t lamps[5];               /* flags, 1 whole: road white, road red, train signal red and white, flasher */
+    uint8_t lamps[7];               /* flags, 1 whole: road white, road red, train signal red (amber) and white, flasher; those of
+                                     * booms 0 and 1, kind 6 alone (T-09) */
     uint8_t kiosk, operator_hold;   /* flags */
     uint16_t countdown;             /* of the time release, 0 to 270 */
     uint8_t phase;                  /* 0 open, 1 warning, 2 right booms ordered down, 3 all ordered down, 4 raising */
     uint16_t timer;                 /* 1 to F in phase 1, 1 to G in phase 2, otherwise 0 */
     uint16_t left;                  /* ticks left to motorists, 0 to M in phase 0, otherwise 0 (T-06) */
-    uint16_t out;                   /* ticks out of normal, 0 to 901 */
+    uint16_t out;                   /* ticks out of normal, 0 to 1,080 (T-09) */
 } wilzhoram_crossing;
 
 /* The plant: it goes in and comes back by value. */
@@ -86,7 +88,7 @@ typedef struct {
 /* What an event gives. */
 typedef struct {
     uint8_t number;
-    uint32_t written; /* trains written off: by time releases that this tick completed, or 1 by a strike-in at 255 (T-01) */
+    uint32_t written; /* trains written off: by releases that this tick completed, or 1 by a strike-in at 255 (T-01) */
     wilzhoram_plant plant;
 } wilzhoram_answer;
 
@@ -151,11 +153,11 @@ wilzhoram_distance wilzhoram_board_distance(uint16_t speed, uint16_t retardation
  * Measured by ci/boundary on a thread with a painted stack, over every number and event code, and rounded up. The C
  * library's memory functions, all that a call calls, are bound when the program starts (-z now, or linked statically). */
 #define WILZHORAM_STACK_READ 960
-#define WILZHORAM_STACK_WRITE 512
-#define WILZHORAM_STACK_EVENT 4288
+#define WILZHORAM_STACK_WRITE 320
+#define WILZHORAM_STACK_EVENT 4480
 #define WILZHORAM_STACK_DRAW 1280
-#define WILZHORAM_STACK_PREVIEW 3904
-#define WILZHORAM_STACK_RUN 3264
+#define WILZHORAM_STACK_PREVIEW 4032
+#define WILZHORAM_STACK_RUN 3392
 #define WILZHORAM_STACK_AGREE 3264
 #define WILZHORAM_STACK_BOARD_DISTANCE 64
 

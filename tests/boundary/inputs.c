@@ -19,10 +19,10 @@ size_t random_book(uint8_t *book, unsigned n) {
     uint8_t *first = book + 1, *second = book + 1 + 3 * n;
     book[0] = (uint8_t)n;
     for (unsigned i = 0; i < n; i++, first += 3, second += 6) {
-        first[0] = (uint8_t)(1 + below(4));
+        first[0] = (uint8_t)(1 + below(6));
         first[1] = (uint8_t)(1 + below(4));
         first[2] = (uint8_t)below(1u << first[1]);
-        second[0] = (uint8_t)(1 + below(below(2) ? 3 : 180));
+        second[0] = first[0] == 6 ? 15 : (uint8_t)(1 + below(below(2) ? 3 : 180));
         second[2] = first[0] == 4 ? (uint8_t)(1 + below(below(2) ? 3 : 90)) : 0;
         second[1] = second[3] = 0;
         uint32_t pause = below(2) ? 0 : below(below(2) ? 4 : 541);
@@ -43,7 +43,7 @@ wilzhoram_plant random_fresh(unsigned n) {
 
 /* An event of the table, most of the time for this plant; in one of eight, one byte is any. */
 wilzhoram_event_bytes random_event(unsigned n) {
-    static const uint8_t places[10] = {1, 4, 4, 1, 1, 4, 4, 1, 4, 5};
+    static const uint8_t places[10] = {1, 4, 4, 1, 1, 4, 4, 1, 4, 7};
     static const uint8_t values[10] = {1, 1, 1, 2, 2, 2, 2, 1, WILZHORAM_BOOM_LOST + 1, 2};
     unsigned code = below(4) == 0 ? 0 : below(10);
     uint8_t bytes[4] = {(uint8_t)code, (uint8_t)below(code == 0 ? 1 : n), (uint8_t)below(places[code]),

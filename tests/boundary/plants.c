@@ -193,8 +193,8 @@ static void find_padding(void) {
         if (same_plant(&plant, &zero))
             padding[paddings++] = i;
     }
-    if (sizeof zero - paddings != 2 + 8 * 9 + 8 * 40)
-        fail("the fields of a plant are %zu bytes, 394 expected", sizeof zero - paddings);
+    if (sizeof zero - paddings != 2 + 8 * 9 + 8 * 42)
+        fail("the fields of a plant are %zu bytes, 410 expected", sizeof zero - paddings);
 }
 
 /* T-01: every value of the unsure flag of each track in each record, in fresh plants of every size. In range: 0, and 1 on a

@@ -1,4 +1,4 @@
-/* The ranges of settings and plant, from document 01 and requests T-01, T-02 and T-06 of document 02 alone. */
+/* The ranges of settings and plant, from document 01 and requests T-01, T-02, T-06 and T-09 of document 02 alone. */
 #include "boundary.h"
 #include <string.h>
 
@@ -24,9 +24,10 @@ bool same_plant(const wilzhoram_plant *a, const wilzhoram_plant *b) {
 }
 
 static bool entry_in(const wilzhoram_entry *e) {
+    bool pre = e->kind == 6 ? e->pre == 15 : 1 <= e->pre && e->pre <= 180;
     bool gap = e->kind == 4 ? 1 <= e->gap && e->gap <= 90 : e->gap == 0;
-    return 1 <= e->kind && e->kind <= 4 && 1 <= e->tracks && e->tracks <= 4 && e->mask >> e->tracks == 0 && 1 <= e->pre
-        && e->pre <= 180 && gap && e->pause <= 540;
+    return 1 <= e->kind && e->kind <= 6 && 1 <= e->tracks && e->tracks <= 4 && e->mask >> e->tracks == 0 && pre && gap
+        && e->pause <= 540;
 }
 
 unsigned settings_number(const wilzhoram_site *site) {
@@ -45,23 +46,27 @@ static bool track_in(const wilzhoram_entry *e, const wilzhoram_crossing *c, int 
         && c->occupied[t] <= flag && c->unsure[t] <= flag;
 }
 
+static bool lights_only(const wilzhoram_entry *e) {
+    return e->kind == 1 || e->kind == 5;
+}
+
 static bool phase_in(const wilzhoram_entry *e, unsigned phase, unsigned timer) {
     switch (phase) {
     case 1: return 1 <= timer && timer <= e->pre;
     case 2: return e->kind == 4 && 1 <= timer && timer <= e->gap;
-    case 4: return e->kind != 1 && timer == 0;
+    case 4: return !lights_only(e) && timer == 0;
     default: return (phase == 0 || phase == 3) && timer == 0;
     }
 }
 
 static bool crossing_in(const wilzhoram_entry *e, const wilzhoram_crossing *c) {
-    int booms = e->kind == 1 ? 0 : e->kind == 4 ? 4 : 2;
-    bool in = c->kiosk <= 1 && c->operator_hold <= 1 && c->countdown <= 270 && c->out <= 901
+    int booms = lights_only(e) ? 0 : e->kind == 4 ? 4 : 2, lamps = e->kind == 6 ? 7 : 5;
+    bool in = c->kiosk <= 1 && c->operator_hold <= 1 && c->countdown <= 270 && c->out <= 1080
         && phase_in(e, c->phase, c->timer) && c->left <= (c->phase == 0 ? e->pause : 0);
     for (int i = 0; i < 4; i++)
         in = in && track_in(e, c, i) && c->booms[i] <= (i < booms ? WILZHORAM_BOOM_LOST : 0);
-    for (int i = 0; i < 5; i++)
-        in = in && c->lamps[i] <= 1;
+    for (int i = 0; i < 7; i++)
+        in = in && c->lamps[i] <= (i < lamps ? 1 : 0);
     return in;
 }
 

@@ -3,6 +3,7 @@ ghost use mathlib.Core.Bool.{cond};
 ghost use mathlib.Core.Path.{_≡_};
 ghost use lib.Dec.{eqb};
 ghost use Rattle.machine.specs.Common.{bit};
+ghost use Rattle.machine.specs.Panel.{amber};
 
 // White in normal position, else red; dark if that lamp is dead.
 pub fn road(normal: bool, white: bool, red: bool) -> u8
@@ -24,9 +25,22 @@ pub fn signal(secured: bool, white: bool, red: bool) -> u8
     bits::value(red, 1)
 }
 
-// White with a passable signal, else violet.
-pub fn distant(signal: u8) -> u8
-    ensures { λ r. ⌜ r ≡ cond (eqb signal 2) 2 1 ⌝ }
+// The train signal of the 1959 sheet (document 02, T-09): white, otherwise amber; dark if that lamp is dead.
+pub fn control(white: bool, lamp: bool) -> u8
+    ensures { λ r. ⌜ r ≡ cond white 2 (bit lamp amber) ⌝ }
 {
+    if white {
+        return 2;
+    }
+    bits::value(lamp, 3)
+}
+
+// White with a passable signal, else violet; under the 1959 sheet as the train signal (document 02, T-09).
+pub fn distant(old: bool, signal: u8) -> u8
+    ensures { λ r. ⌜ r ≡ cond old signal (cond (eqb signal 2) 2 1) ⌝ }
+{
+    if old {
+        return signal;
+    }
     if signal == 2 { 2 } else { 1 }
 }

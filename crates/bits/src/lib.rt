@@ -1,4 +1,5 @@
 // Tests as numbers and bits of a byte.
+ghost use mathlib.Core.Bool.{cond};
 ghost use mathlib.Core.Path.{_≡_};
 ghost use Prim.Native.Nat.{_+_, _≤_};
 ghost use Rattle.machine.specs.Common.{bit};
@@ -9,6 +10,13 @@ pub fn value(on: bool, v: u8) -> u8
     ensures { λ r. ⌜ r ≤ v ⌝ }
 {
     if on { v } else { 0 }
+}
+
+// One of two tests, by a third.
+pub fn either(test: bool, a: bool, b: bool) -> bool
+    ensures { λ r. ⌜ r ≡ cond test a b ⌝ }
+{
+    if test { a } else { b }
 }
 
 // 1 where the test holds.

@@ -7,8 +7,10 @@ use machine::numbers;
 use settings::count_in;
 use settings::entry_in;
 use settings::refuse;
+ghost use mathlib.Core.Bool.{cond};
 ghost use mathlib.Core.Path.{_≡_};
 ghost use Prim.Native.Nat.{_+_, _*_, _≤_, _<_};
+ghost use lib.Dec.{eqb};
 ghost use lib.ListN.{length};
 ghost use Rattle.machine.specs.Common.{all-below, word};
 ghost use Rattle.machine.specs.Plant.{no-entry};
@@ -119,17 +121,23 @@ fn book_site(b: &[u8]) -> Site
     Site { n: size, entries }
 }
 
+// The settings of a book that is taken, otherwise an all-zero site. Inside this crate alone: the number is the book's.
+fn site_read(b: &[u8], number: u8) -> Site
+    requires { ⌜ number ≡ read-number (now b) ⌝ }
+    ensures { λ r. ⌜ r ≡ cond (eqb number 0) (book-site (now (b .entry))) no-site ⌝ }
+{
+    if number == 0 {
+        return book_site(b);
+    }
+    no_site()
+}
+
 // A book read: its number and its fresh plant or, refused, the fresh plant of an all-zero site.
 pub fn read(b: &[u8]) -> Reading
     ensures { λ r. ⌜ r ≡ read (now (b .entry)) ⌝ }
 {
     let number = read_number(b);
-    if number == 0 {
-        let site = book_site(b);
-        let plant = Plant::fresh(site);
-        return Reading { number: 0, plant };
-    }
-    let site = no_site();
+    let site = site_read(b, number);
     let plant = Plant::fresh(site);
     Reading { number, plant }
 }

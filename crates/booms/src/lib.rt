@@ -8,14 +8,14 @@ ghost use Rattle.machine.specs.Reports.{moving, down};
 ghost use Rattle.machine.specs.Plant.{each-boom, booms-up, booms-down, booms-closed};
 ghost use Rattle.booms.specs.Sides.{on-sides};
 
-// A test that holds of each boom that the kind has: right of the road, where there are any, and left for kind 4.
+// A test that holds of each boom that the kind has: right of the road, where there are any, and left with four booms.
 fn each(kind: u8, right: bool, left: bool) -> bool
     ensures { λ r. ⌜ r ≡ on-sides kind right left ⌝ }
 {
     if kind::lights_only(kind) {
         return true;
     }
-    if kind == 4 {
+    if kind::four_booms(kind) {
         return right & left;
     }
     right
@@ -57,7 +57,7 @@ fn half_closed(report: u8) -> bool
 pub fn closed(kind: u8, booms: [u8; 4]) -> bool
     ensures { λ r. ⌜ r ≡ booms-closed kind (λ b. getD booms b 0) ⌝ }
 {
-    if kind == 2 {
+    if kind::half_booms(kind) {
         return half_closed(booms[0]) & half_closed(booms[1]);
     }
     down(kind, booms)

@@ -7,10 +7,10 @@ use Rattle.machine.specs.Reports.{up, moving, down}
 use Rattle.machine.specs.Plant.{crossing, fresh-plant, dependent, reason, booms-up, booms-down, booms-closed, normal, secured}
 use Rattle.machine.specs.Range.{entry-in, entry-zero, track-in, phase-in, crossing-in, crossing-zero, place-in, in-range}
 use Rattle.machine.specs.Events.{Command, is-known, entitled, place-limit, value-limit, refusal, number}
-use Rattle.machine.specs.Effects.{calling-after, waiting-after, unsure-after, cancels, act, phase-ticked, timer-ticked, tick, written-at}
+use Rattle.machine.specs.Effects.{calling-after, waiting-after, unsure-after, cancels, act, overlong, phase-ticked, timer-ticked, tick, written-at}
 use Rattle.machine.specs.Settling.{phase-settled, timer-settled, left-settled, out-settled, settle}
 use Rattle.machine.specs.Step.{touch, apply, written, step, after, carried}
-use Rattle.machine.specs.Panel.{road, signal, distant, lit-at, rhythm, is-lit, lit, bell, boom-lamps, right-down, left-down, released, releases-shown, status, holds, row, panel}
+use Rattle.machine.specs.Panel.{road, shows-white, signal, distant, lit-at, rhythm, is-lit, lit, bell, boom-lamps, right-down, left-down, released, releases-shown, status, holds, row, panel}
 use Rattle.machine.specs.SiteBook.{book-entry, book-site, read-number, read}
 use Rattle.chart.proofs.Words.{ev, a-tick, strike-in, passage, site, shown, release}
 use Rattle.chart.proofs.Release.{carried-269, carried-270, phase-270}
@@ -57,7 +57,7 @@ pub record Chart : Type 0 where
   pub released : getD (shown (site 1 0) (release 270)) 10 0 ≡ 0
 
 pub chart : Chart
-unfolding fresh-plant dependent reason booms-up booms-down booms-closed normal secured entry-in entry-zero track-in phase-in crossing-in crossing-zero place-in in-range is-known entitled place-limit value-limit refusal number calling-after waiting-after unsure-after cancels act phase-ticked timer-ticked tick written-at phase-settled timer-settled left-settled out-settled settle touch apply written step after carried road signal distant lit-at rhythm is-lit lit bell boom-lamps right-down left-down released releases-shown status holds row panel book-entry book-site read-number read
+unfolding fresh-plant dependent reason booms-up booms-down booms-closed normal secured entry-in entry-zero track-in phase-in crossing-in crossing-zero place-in in-range is-known entitled place-limit value-limit refusal number calling-after waiting-after unsure-after cancels act overlong phase-ticked timer-ticked tick written-at phase-settled timer-settled left-settled out-settled settle touch apply written step after carried road shows-white signal distant lit-at rhythm is-lit lit bell boom-lamps right-down left-down released releases-shown status holds row panel book-entry book-site read-number read
 chart = record {
   fresh = refl;
   program = refl;

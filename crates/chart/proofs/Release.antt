@@ -11,10 +11,10 @@ use Rattle.machine.specs.Reports.{up}
 use Rattle.machine.specs.Plant.{no-crossing, fresh-plant, dependent, reason, booms-up, booms-down, booms-closed, normal, secured}
 use Rattle.machine.specs.Range.{entry-in, entry-zero, track-in, phase-in, crossing-in, crossing-zero, place-in, in-range}
 use Rattle.machine.specs.Events.{Command, is-known, entitled, place-limit, value-limit, refusal, number}
-use Rattle.machine.specs.Effects.{calling-after, waiting-after, unsure-after, cancels, act, phase-ticked, timer-ticked, tick, written-at}
+use Rattle.machine.specs.Effects.{calling-after, waiting-after, unsure-after, cancels, act, overlong, phase-ticked, timer-ticked, tick, written-at}
 use Rattle.machine.specs.Settling.{phase-settled, timer-settled, left-settled, out-settled, settle}
 use Rattle.machine.specs.Step.{touch, apply, written, step, after, carried}
-use Rattle.machine.specs.Panel.{road, signal, distant, lit-at, rhythm, is-lit, lit, bell, boom-lamps, right-down, left-down, released, releases-shown, status, holds, row, panel}
+use Rattle.machine.specs.Panel.{road, shows-white, signal, distant, lit-at, rhythm, is-lit, lit, bell, boom-lamps, right-down, left-down, released, releases-shown, status, holds, row, panel}
 use Rattle.machine.specs.SiteBook.{book-entry, book-site, read-number, read}
 use Rattle.chart.proofs.Words.{a-tick, site, shown, release}
 
@@ -51,7 +51,7 @@ held = record {
   occupied = tab 4 (λ t. 0);
   unsure = tab 4 (λ t. 0);
   booms = tab 4 (λ b. up);
-  lamps = tab 5 (λ l. 1);
+  lamps = 1 ∷ 1 ∷ 1 ∷ 1 ∷ 1 ∷ 0 ∷ 0 ∷ [];
   kiosk = 0;
   operator = 0;
   countdown = 1;
@@ -81,7 +81,7 @@ record Computed : Type 0 where
   pub phase : getD (panel (ended .plant)) 10 0 ≡ 0
 
 computed : Computed
-unfolding fresh-plant dependent reason booms-up booms-down booms-closed normal secured entry-in entry-zero track-in phase-in crossing-in crossing-zero place-in in-range is-known entitled place-limit value-limit refusal number calling-after waiting-after unsure-after cancels act phase-ticked timer-ticked tick written-at phase-settled timer-settled left-settled out-settled settle touch apply written step after carried road signal distant lit-at rhythm is-lit lit bell boom-lamps right-down left-down released releases-shown status holds row panel book-entry book-site read-number read played
+unfolding fresh-plant dependent reason booms-up booms-down booms-closed normal secured entry-in entry-zero track-in phase-in crossing-in crossing-zero place-in in-range is-known entitled place-limit value-limit refusal number calling-after waiting-after unsure-after cancels act overlong phase-ticked timer-ticked tick written-at phase-settled timer-settled left-settled out-settled settle touch apply written step after carried road shows-white signal distant lit-at rhythm is-lit lit bell boom-lamps right-down left-down released releases-shown status holds row panel book-entry book-site read-number read played
 computed = record { ticks = refl; carries = refl; phase = refl }
 
 ticks-270 : played lights 0 (release 270) ≡ ended

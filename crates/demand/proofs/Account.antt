@@ -15,7 +15,7 @@ use Rattle.machine.specs.Effects.{sweeps, calling-after, waiting-after, act, re
 use Rattle.machine.proofs.Tools.{and-both, below4}
 use Rattle.machine.proofs.Trains.{trains-after}
 use Rattle.demand.specs.Ledger.{count, State, trains as all-trains, worked}
-use Rattle.demand.proofs.Agree.{Agree, same-sweep}
+use Rattle.demand.proofs.Agree.{Agree, same-sweep, same-release}
 
 -- a mark at one place of four
 one-hot : (b : Bool) (place : ℕ) → (b ≡ true → place < 4) → sum4 (λ t. bit (b && eqb place t) 1) ≡ bit b 1
@@ -26,7 +26,7 @@ one-hot false place f = refl
 abbrev pub Even : Crossing → State → List Event → Type 0
 Even c k h = count 1 h ≡ count 2 h + k .written + total c
 
-module _ (s : Entry) {c : Crossing} {k : State} (a : Agree c k) (e : Event) where
+module _ (s : Entry) {c : Crossing} {k : State} (a : Agree s c k) (e : Event) where
   -- an event of this crossing: at a track where its code asks for one, and a passage of a train that is there
   module _ (not-tick : is 0 e ≡ false) (placed : (k : ℕ) → on-track k ≡ true → is k e ≡ true → e .place < 4) (there : is 2 e ≡ true → 0 < trains c (e .place)) where
     -- what the ledger writes off for it is what the machine does: 1 where it sweeps
@@ -57,9 +57,9 @@ module _ (s : Entry) {c : Crossing} {k : State} (a : Agree c k) (e : Event) wher
   -- a tick
   module _ (z : e .code ≡ 0) where
     -- what the ledger writes off is what the machine does: every train where a release completes
-    pub tick-written : worked s e k .written ≡ k .written + bit (releases c) (total c)
+    pub tick-written : worked s e k .written ≡ k .written + bit (releases s c) (total c)
     unfolding worked
-    tick-written = rw (z, same, ← a .countdown) (omega arith)
+    tick-written = rw (z, same, ← same-release s a e) (omega arith)
       where
         at : (t : ℕ) → t < 4 → k .queue t .calling + k .queue t .waiting ≡ trains c t
         at t b = sym (ap (λ q. q .calling + q .waiting) (a .queue t b))
@@ -67,9 +67,9 @@ module _ (s : Entry) {c : Crossing} {k : State} (a : Agree c k) (e : Event) wher
         same : all-trains k ≡ total c
         same = omega (arith, at 0 (lit< tt), at 1 (lit< tt), at 2 (lit< tt), at 3 (lit< tt))
 
-    tick-total : total (tick s c) + bit (releases c) (total c) ≡ total c
+    tick-total : total (tick s c) + bit (releases s c) (total c) ≡ total c
     unfolding tick
-    tick-total = both (releases c)
+    tick-total = both (releases s c)
       where
         both : (r : Bool) → sum4 (λ t. cond r 0 (calling c t) + cond r 0 (waiting c t)) + bit r (total c) ≡ total c
         both true = omega arith

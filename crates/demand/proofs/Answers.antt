@@ -17,6 +17,8 @@ use Rattle.machine.specs.Step.{touch, apply, written, step}
 use Rattle.machine.proofs.Tools.{by-cond, sum-past, getD-tab}
 use Rattle.machine.proofs.Taken.{taken-answer, refused-answer, answer-number, taken-crossing}
 use Rattle.machine.proofs.Ranges.{PlantIn}
+use Rattle.machine.proofs.Entries.{zero-kind}
+use Rattle.machine.proofs.Stays.{zero-releases}
 use Rattle.demand.specs.Ledger.{taken}
 use Rattle.demand.specs.Demand.{may-tick, a-tick}
 
@@ -36,13 +38,13 @@ module _ (q : Plant) (x : Command) where
     unfolding apply
     crossing-after i b = ap (λ a. crossing (a .plant) i) (taken-answer q x zero-number) ∙ getD-tab 8 (λ j. touch (entry q j) j (crossing q j) e) no-crossing i b
 
-    -- nothing is written off past the last crossing: no countdown runs there, and no event is of a crossing there
+    -- nothing is written off past the last crossing: no release completes there, and no event is of a crossing there
     pub taken-written : PlantIn q → step q x .written ≡ sum-below (q .site .n) (λ i. written-at (entry q i) i (crossing q i) e)
     unfolding written written-at
     taken-written g = ap (λ a. a .written) (taken-answer q x zero-number)
         ∙ sum-past (λ i. written-at (entry q i) i (crossing q i) e) 8 (q .site .n) (g .count) (λ i a b.
         by-cond (λ y. y ≡ 0) (is 0 e)
-        (λ _. rw (g .past i b a .countdown))
+        (λ _. rw (zero-releases (entry q i) (zero-kind (entry q i) (g .entry-past i b a)) (crossing q i) (g .past i b a)))
         (λ z. let l = taken-crossing q x zero-number z in rw (ne-eqb (e .crossing) i (λ o. omega arith), and-false)))
 
   pub refused-step : taken q x ≡ false → step q x ≡ record { number = number q x; written = 0; plant = q }

@@ -14,7 +14,7 @@ use Rattle.machine.specs.Plant.{entry}
 use Rattle.machine.specs.Step.{after}
 use Rattle.machine.proofs.Tools.{by-test, by-cond, and-both}
 use Rattle.machine.proofs.Entries.{EntryIn, some-gap}
-use Rattle.demand.specs.Words.{bit, is, all-up}
+use Rattle.demand.specs.Words.{bit, is, no-booms, all-up}
 use Rattle.demand.specs.Ledger.{taken, is-of, note, log, count, Stage, free, warns, lowers, shut, rises, ticked, settled, State, start, stands, worked, rested, state}
 use Rattle.demand.specs.Demand.{known, stands-after, up-after, Ready, needed, soonest}
 use Rattle.demand.proofs.Lists.{snoc-induction, after-append, log-snoc, count-append}
@@ -66,8 +66,8 @@ module _ (s : Entry) (g : EntryIn s) where
   fits-warning : Fits s (warns (s .pre))
   fits-warning = (g .some-pre, omega arith)
 
-  fits-lifted : Fits s (cond (eqb (s .kind) 1) (free (s .pause)) rises)
-  fits-lifted = by-cond (Fits s) (eqb (s .kind) 1) (λ _. omega arith) (λ _. omega arith)
+  fits-lifted : Fits s (cond (no-booms (s .kind)) (free (s .pause)) rises)
+  fits-lifted = by-cond (Fits s) (no-booms (s .kind)) (λ _. omega arith) (λ _. omega arith)
 
   fits-settled : (stands up : Bool) (x : Stage) → Fits s x → Fits s (settled s stands up x)
   unfolding settled
@@ -135,12 +135,12 @@ module _ (s : Entry) (g : EntryIn s) where
   none-to-go rises f z = absurd (omega arith)
 
 -- settling, where a reason stands and every boom is up ------------------------------------------------------------------------------
-module _ (s : Entry) (k : State) where
-  same-reason : stands (rested s k) ≡ stands k
+module _ (s : Entry) (add : ℕ) (k : State) where
+  same-reason : stands (rested s add k) ≡ stands k
   unfolding rested stands
   same-reason = refl
 
-  ready-settles : stands (rested s k) ≡ true → all-up (s .kind) (rested s k .boom) ≡ true → rested s k .stage ≡ settled s true true (k .stage)
+  ready-settles : stands (rested s add k) ≡ true → all-up (s .kind) (rested s add k .boom) ≡ true → rested s add k .stage ≡ settled s true true (k .stage)
   unfolding rested
   ready-settles r u = rw (sym same-reason ∙ r, u)
 
@@ -159,13 +159,13 @@ module _ (s : Entry) (g : EntryIn s) where
   at-first : (h : List Event) → stands (state s h) ≡ true → all-up (s .kind) (state s h .boom) ≡ true → to-go s (state s h .stage) ≤ soonest s
   unfolding state
   at-first [] r u = absurd (none r)
-  at-first (e ∷ h) r u = let w = worked s e (state s h) in rw (ready-settles s w r u) (at-most s g (w .stage) (fits-worked s g e (state s h) (fits s g h)))
+  at-first (e ∷ h) r u = let w = worked s e (state s h) in rw (ready-settles s _ w r u) (at-most s g (w .stage) (fits-worked s g e (state s h) (fits s g h)))
 
   -- one more event
   one-more : (e : Event) (h : List Event) → stands (state s (e ∷ h)) ≡ true → all-up (s .kind) (state s (e ∷ h) .boom) ≡ true
       → to-go s (state s (e ∷ h) .stage) ≤ to-go s (state s h .stage) - count 0 (e ∷ [])
   unfolding state worked count
-  one-more e h r u = let x = state s h .stage in rw (ready-settles s (worked s e (state s h)) r u) (by-test (is 0 e)
+  one-more e h r u = let x = state s h .stage in rw (ready-settles s _ (worked s e (state s h)) r u) (by-test (is 0 e)
       (λ z. rw z (by-one _ (to-go s x) (nearer-tick s g x (fits s g h))))
       (λ z. rw z (by-none _ (to-go s x) (nearer s g x))))
 

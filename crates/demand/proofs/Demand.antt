@@ -1,41 +1,41 @@
 -- Demand 3, proved: the parts at one crossing, then the claim for every book and every list of commands.
 use mathlib.Core.Path.{_≡_, refl, sym, _∙_, ap}
-use mathlib.Core.Logic.{_⊎_, ⊎-elim}
-use mathlib.Core.Bool.{true, false, true≢false, false≢true, or-true}
+use mathlib.Core.Logic.{_⊎_}
+use mathlib.Core.Bool.{true, false, _&&_, _||_, true≢false, false≢true, or-true}
 use mathlib.Core.List.{List, [], _∷_, map}
 use Prim.Native.Nat.{ℕ, _%_, _≤_, _<_}
 use native.Mathlib.Omega.{arith}
 use lib.Dec.{eqb, ltb, lit<}
 use lib.ListN.{getD}
-use borrow.Author.Tests.{eqb-true, lt-ltb}
+use borrow.Author.Tests.{eqb-true, eqb-false, lt-ltb}
 use Rattle.machine.specs.declared.Entry.{Entry}
 use Rattle.machine.specs.declared.Site.{Site}
 use Rattle.machine.specs.declared.Crossing.{Crossing}
 use Rattle.machine.specs.declared.Plant.{Plant}
 use Rattle.machine.specs.declared.Event.{Event}
 use Rattle.machine.specs.Events.{From, Command, listed}
-use Rattle.machine.specs.Plant.{boom, lamp, entry, crossing, no-entry, no-crossing, fresh-crossing, fresh-plant, booms-closed, normal, secured}
+use Rattle.machine.specs.Plant.{boom, lamp, entry, crossing, no-entry, no-crossing, fresh-crossing, fresh-plant, lamps-at, old-booms, lamp-count, booms-closed, boom-lamps-whole, normal, secured}
 use Rattle.machine.specs.Effects.{tick}
 use Rattle.machine.specs.Settling.{settle}
 use Rattle.machine.specs.Step.{touch, step, after}
 use Rattle.machine.specs.Panel.{row}
 use Rattle.machine.specs.SiteBook.{read}
-use Rattle.machine.proofs.Tools.{by-test, and-both, getD-tab}
+use Rattle.machine.proofs.Tools.{by-test, by-cond, and-both, getD-tab}
 use Rattle.machine.proofs.Taken.{step-site}
 use Rattle.machine.proofs.Ranges.{PlantIn, plant-reads, entry-of}
-use Rattle.machine.proofs.Laws.{fresh-in-range, panel-at}
+use Rattle.machine.proofs.Laws.{fresh-of, fresh-in-range, panel-at}
 use Rattle.demand.specs.Words.{as-demanded, all-closed}
 use Rattle.demand.specs.Ledger.{log, Stage, free, warns, lowers, shut, rises, ticks-left, some-unsure, stands, rested, state}
-use Rattle.demand.specs.Demand.{known, stands-after, up-after, left-after, Unbroken, Ready, needed, soonest, shown, may-tick, a-tick, Closed, Pauses, Ordered, Kept, Demand, Unsent-demand, Closes-sooner}
+use Rattle.demand.specs.Demand.{known, stands-after, up-after, left-after, Unbroken, Ready, needed, soonest, shown, may-tick, a-tick, whole-after, Closed, Pauses, Ordered, Kept, Demand, Unsent-demand, Closes-sooner}
 use Rattle.demand.proofs.Unbroken.{stands-now, at-least}
-use Rattle.demand.proofs.Stages.{numbers, rests, resting, left-open, stands-open}
+use Rattle.demand.proofs.Stages.{numbers, rests, resting, not-resting, left-open, stands-open}
 use Rattle.demand.proofs.Timing.{Timed}
 use Rattle.demand.proofs.Agree.{reason-stands, same-booms, same-up}
 use Rattle.demand.proofs.Each.{Holds}
 use Rattle.demand.proofs.Answers.{crossing-after, tick-taken}
 use Rattle.demand.proofs.Run.{same-sum, Sound, sound}
 use Rattle.demand.proofs.Closing.{in-time}
-use Rattle.demand.proofs.Shown.{passable-secured, released-secured, none-released, right-up, left-up, opened, normal-bit, bit-normal, all-ordered}
+use Rattle.demand.proofs.Shown.{passable-secured, passable-white, released-secured, none-released, right-up, left-up, opened, normal-bit, bit-normal, all-ordered}
 
 -- where a reason stands after a log, phase 0 has ticks left: before any event none stands
 open-left : (s : Entry) (h : List Event) → stands (state s h) ≡ true → numbers (state s h .stage) .phase ≡ 0 → 0 < ticks-left (state s h .stage)
@@ -82,16 +82,29 @@ module _ (p : Plant) (es : List Command) (k : Sound p es) (i : ℕ) (l : i < p .
       by-stage shut z t = let u = t refl in at-least p i (needed s) es (let b = u .2 in omega arith) (u .1)
       by-stage rises z t = absurd (omega arith)
 
+  -- a lamp that the kind has and that is whole was last reported so
+  whole : (l : ℕ) → l < lamp-count (s .kind) → lamp c l ≡ true → whole-after p i es l
+  whole l b q = sym (at .agree .lamp l b) ∙ eqb-true _ _ q
+
+  red-whole : lamp c 1 ≡ true → whole-after p i es 1
+  red-whole = whole 1 (by-cond (λ n. 1 < n) (old-booms (s .kind)) (λ _. lit< tt) (λ _. lit< tt))
+
   closed : secured s c ≡ true → Closed p es i
   unfolding secured booms-closed all-closed
   closed v =
-      let a = and-both _ (booms-closed (s .kind) (boom c)) v in
+      let d = and-both _ (boom-lamps-whole (s .kind) (lamp c)) v in
+      let a = and-both _ (booms-closed (s .kind) (boom c)) (d .0) in
       let b = and-both (eqb (c .phase) 3) (lamp c 1) (a .0) in
       record {
         unbroken = waited (eqb-true _ _ (b .0));
         booms = sym (same-booms (at .agree) (s .kind) (as-demanded (s .kind))) ∙ a .1;
-        red = sym (at .agree .lamp 1 (lit< tt)) ∙ eqb-true _ _ (b .1);
+        boom-lamps = λ six. let e = and-both (lamp c 5) (lamp c 6) (rw six at (d .1)) in (whole 5 (rw six (lit< tt)) (e .0), whole 6 (rw six (lit< tt)) (e .1));
+        red = red-whole (b .1);
       }
+
+  -- in phases 1 and 3 a reason stands
+  stands-closing : (eqb (c .phase) 1 || eqb (c .phase) 3) ≡ true → stands-after p i es ≡ true
+  stands-closing q = stands-now p i (at .timed (not-resting (known p i es .stage) (rw (← phase-is) q)) .1)
 
   module _ (none : stands-after p i es ≡ false) where
     at-rest : rests (known p i es .stage) ≡ true
@@ -129,7 +142,9 @@ module _ (p : Plant) (es : List Command) (k : Sound p es) (i : ℕ) (l : i < p .
       let unsecured : secured s c ≡ true → ⊥ = (λ v. false≢true (rw zero at v)) in
       record {
         phase = shows p q (k .site) i 10 l (lit< tt) ∙ zero;
-        signal = λ v. unsecured (passable-secured s c (sym (shows p q (k .site) i 6 l (lit< tt)) ∙ v));
+        signal = λ v. let two = sym (shows p q (k .site) i 6 l (lit< tt)) ∙ v in by-test (eqb (s .kind) 5)
+            (λ five. false≢true (rw zero at (passable-white s c (eqb-true _ _ five) two .0)))
+            (λ other. unsecured (passable-secured s c (eqb-false _ _ other) two));
         released = shows p q (k .site) i 8 l (lit< tt) ∙ none-released s c unsecured;
       }
 
@@ -154,9 +169,9 @@ module _ (p : Plant) (es : List Command) (k : Sound p es) (i : ℕ) (l : i < p .
   unfolding row
   kept = record {
     account = at .even;
-    passage = ⊎-elim
-        (λ v. closed (passable-secured s c (sym (shows p q (k .site) i 6 l (lit< tt)) ∙ v)))
-        (λ (v : 0 < shown q i 8). closed (released-secured s c (rw (shows p q (k .site) i 8 l (lit< tt)) at v)));
+    passable = λ other v. closed (passable-secured s c other (sym (shows p q (k .site) i 6 l (lit< tt)) ∙ v));
+    white = λ five v. let w = passable-white s c five (sym (shows p q (k .site) i 6 l (lit< tt)) ∙ v) in (stands-closing (w .0), red-whole (w .1));
+    released = λ (v : 0 < shown q i 8). closed (released-secured s c (rw (shows p q (k .site) i 8 l (lit< tt)) at v));
     opening = λ none. record {
       right = shows p q (k .site) i 4 l (lit< tt) ∙ right-up s c (phases none);
       left = shows p q (k .site) i 5 l (lit< tt) ∙ left-up s c (phases none);
@@ -168,9 +183,9 @@ module _ (p : Plant) (es : List Command) (k : Sound p es) (i : ℕ) (l : i < p .
   }
 
 -- The claim ------------------------------------------------------------------------------------------------------------------------
-fresh-at : (s : Site) (i : ℕ) → i < s .n → s .n ≤ 8 → crossing (fresh-plant s) i ≡ fresh-crossing true
+fresh-at : (s : Site) (i : ℕ) → i < s .n → s .n ≤ 8 → crossing (fresh-plant s) i ≡ fresh-of (entry (fresh-plant s) i)
 unfolding fresh-plant
-fresh-at s i l few = getD-tab 8 (λ j. fresh-crossing (ltb j (s .n))) no-crossing i (omega arith) ∙ rw (lt-ltb i (s .n) l)
+fresh-at s i l few = getD-tab 8 (λ j. fresh-crossing (lamps-at s j)) no-crossing i (omega arith) ∙ rw (lt-ltb i (s .n) l)
 
 -- what holds after every list from the fresh plant of a book
 sound-book : (book : List ℕ) (es : List Command) → read book .number ≡ 0 → Sound (read book .plant) es

@@ -5,19 +5,22 @@ use mathlib.Core.List.{List, [], _∷_, _++_}
 use Prim.Native.Nat.{ℕ, suc, _+_, _≤_, _<_}
 use native.Mathlib.Omega.{arith}
 use native.Mathlib.Nat.{add-zero}
-use lib.Dec.{eqb}
-use borrow.Author.Tests.{eqb-true}
+use lib.Dec.{eqb, ltb}
+use borrow.Author.Tests.{eqb-true, lt-ltb}
 use Rattle.machine.specs.declared.Entry.{Entry}
 use Rattle.machine.specs.declared.Crossing.{Crossing}
 use Rattle.machine.specs.declared.Plant.{Plant}
 use Rattle.machine.specs.declared.Event.{Event}
-use Rattle.machine.specs.Plant.{entry, fresh-crossing}
+use Rattle.machine.specs.Common.{bit}
+use Rattle.machine.specs.Plant.{lamp-flag, entry, lamp-count}
 use Rattle.machine.specs.Events.{Command, is, on-track, place-limit}
 use Rattle.machine.specs.Effects.{act, tick, written-at}
 use Rattle.machine.specs.Settling.{settle}
 use Rattle.machine.specs.Step.{after, touch}
-use Rattle.machine.proofs.Tools.{by-test, by-cond, below4, each-tab}
+use Rattle.machine.proofs.Tools.{by-test, by-cond, below4, getD-tab}
 use Rattle.machine.proofs.Taken.{Accepted}
+use Rattle.machine.proofs.Entries.{at-most-seven}
+use Rattle.machine.proofs.Laws.{fresh-of}
 use Rattle.demand.specs.Ledger.{taken, note, log, count, ticked as stage-ticked, State, stands, worked, rested, state}
 use Rattle.demand.specs.Demand.{known, stands-after, Unbroken}
 use Rattle.demand.proofs.Lists.{log-snoc}
@@ -28,11 +31,15 @@ use Rattle.demand.proofs.Account.{Even, own-even, own-written, tick-eve
 
 -- what holds of crossing i, whose record is c after the list es from the plant p
 pub record Holds (p : Plant) (es : List Command) (i : ℕ) (c : Crossing) : Type 0 where
-  pub agree : Agree c (known p i es)
+  pub agree : Agree (entry p i) c (known p i es)
   pub timed : Timed (λ n. Unbroken p i n es) (entry p i) (known p i es .stage)
   pub even : Even c (known p i es) (log p i es)
 
-pub fresh-holds : (p : Plant) (i : ℕ) → Holds p [] i (fresh-crossing true)
+-- each lamp that the kind has is whole
+fresh-lamps : (s : Entry) (l : ℕ) → l < lamp-count (s .kind) → lamp-flag (fresh-of s) l ≡ 1
+fresh-lamps s l b = getD-tab 7 (λ l. bit (ltb l (lamp-count (s .kind))) 1) 0 l (omega (arith, at-most-seven (s .kind))) ∙ rw (lt-ltb _ _ b)
+
+pub fresh-holds : (p : Plant) (i : ℕ) → Holds p [] i (fresh-of (entry p i))
 unfolding log state count
 fresh-holds p i = record {
   agree = record {
@@ -40,11 +47,13 @@ fresh-holds p i = record {
     operator = refl;
     countdown = refl;
     route = below4 _ refl refl refl refl;
+    occupied = below4 _ refl refl refl refl;
     queue = below4 _ refl refl refl refl;
     unsure = below4 _ refl refl refl refl;
     boom = below4 _ refl refl refl refl;
-    lamp = each-tab 5 (λ l. 1) 0 (λ l x. x ≡ 1) (λ l b. refl);
+    lamp = fresh-lamps (entry p i);
     stage = refl;
+    out = refl;
   };
   timed = λ q. absurd (false≢true (sym q));
   even = refl;
@@ -88,10 +97,10 @@ module _ (p : Plant) (es : List Command) (x : Command) (i : ℕ) (c : Crossing) 
     abbrev w : State
     w = worked s e (known p i es)
 
-    settled : (add : ℕ) (d : Crossing) → Agree d w → Even d w (e ∷ h) → (stands-after p i more ≡ true → Timed (λ n. Unbroken p i n more) s (w .stage)) → Holds p more i (settle s add d)
+    settled : (add : ℕ) (d : Crossing) → bit (is 0 e) 1 ≡ add → Agree s d w → Even d w (e ∷ h) → (stands-after p i more ≡ true → Timed (λ n. Unbroken p i n more) s (w .stage)) → Holds p more i (settle s add d)
     unfolding settle state rested stands
-    settled add d a v f = record {
-      agree = rw longer-log (settled-agree s add a);
+    settled add d adds a v f = record {
+      agree = rw (longer-log, adds) (settled-agree s add a);
       timed = rw longer-log (timed-settled s (λ n. Unbroken p i n more) _ _ (w .stage) (λ r. let st : stands-after p i more ≡ true = rw longer-log r in (begins p i more st, f st)));
       even = rw longer-log v;
     }
@@ -102,7 +111,7 @@ module _ (p : Plant) (es : List Command) (x : Command) (i : ℕ) (c : Crossing) 
 
     pub ticked : e .code ≡ 0 → Holds p more i (settle s 1 (tick s c))
     unfolding count
-    ticked z = settled 1 (tick s c) (tick-agree s (k .agree) e z) (tick-even s (k .agree) e z h (k .even))
+    ticked z = settled 1 (tick s c) (rw z) (tick-agree s (k .agree) e z) (tick-even s (k .agree) e z h (k .even))
         (λ st. rw (stage-on-tick z) (timed-tick s (λ n u. goes-on p i (suc n) es x u st one-more) (known p i es .stage) (k .timed)))
       where
         one-more : {n : ℕ} → suc n ≤ n + count 0 (note (after p es) i x)
@@ -110,7 +119,7 @@ module _ (p : Plant) (es : List Command) (x : Command) (i : ℕ) (c : Crossing) 
 
     pub acted : {n : ℕ} → is 0 e ≡ false → s .tracks ≤ 4 → Accepted n s c e → Holds p more i (settle s 0 (act s c e))
     unfolding worked
-    acted nt few a = settled 0 (act s c e) (own-agree s (k .agree) e nt (at-track few a 1 refl)) (own-even s (k .agree) e nt (at-track few a) (a .there) h (k .even))
+    acted nt few a = settled 0 (act s c e) (rw nt) (own-agree s (k .agree) e nt (at-track few a 1 refl)) (own-even s (k .agree) e nt (at-track few a) (a .there) h (k .even))
         (λ st. rw nt (λ q. let u = k .timed q in (u .0, goes-on p i (u .0) es x (u .1) st (omega arith), u .2)))
 
   -- a taken event, of any crossing

@@ -1,5 +1,6 @@
 pub mod Lists
 pub mod Unbroken
+pub mod Out
 pub mod Stages
 pub mod Timing
 pub mod Agree

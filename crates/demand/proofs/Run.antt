@@ -10,7 +10,7 @@ use lib.ListN.{getD}
 use Rattle.machine.specs.Common.{sum-below}
 use Rattle.machine.specs.declared.Plant.{Plant}
 use Rattle.machine.specs.declared.Event.{Event}
-use Rattle.machine.specs.Plant.{entry, crossing, no-entry, fresh-crossing}
+use Rattle.machine.specs.Plant.{entry, crossing, no-entry}
 use Rattle.machine.specs.Events.{Command}
 use Rattle.machine.specs.Range.{in-range}
 use Rattle.machine.specs.Effects.{written-at}
@@ -18,6 +18,7 @@ use Rattle.machine.specs.Step.{step, after, carried}
 use Rattle.machine.proofs.Tools.{by-test, sum-add, sum-same, sum-past}
 use Rattle.machine.proofs.Taken.{Accepted, step-site, taken-accepted}
 use Rattle.machine.proofs.Ranges.{plant-reads, entry-of}
+use Rattle.machine.proofs.Laws.{fresh-of}
 use Rattle.machine.proofs.Stays.{stays-in-range}
 use Rattle.demand.specs.Words.{sum-over}
 use Rattle.demand.specs.Ledger.{taken, note, log, state}
@@ -39,7 +40,7 @@ pub record Sound (p : Plant) (es : List Command) : Type 0 where
   pub sum : sum-below (p .site .n) (λ i. known p i es .written) ≡ carried p es
 
 module _ (p : Plant) where
-  none : in-range p ≡ true → ((i : ℕ) → i < p .site .n → crossing p i ≡ fresh-crossing true) → Sound p []
+  none : in-range p ≡ true → ((i : ℕ) → i < p .site .n → crossing p i ≡ fresh-of (entry p i)) → Sound p []
   unfolding after carried log state
   none g fresh = record { site = refl; range = g; each = λ i l. rw (fresh i l) (fresh-holds p i); sum = sum-past (λ i. known p i [] .written) (p .site .n) 0 (omega arith) (λ i a b. refl) }
 
@@ -95,5 +96,5 @@ module _ (p : Plant) where
               ∙ omega (arith, carries, taken-written q x t g, ap (λ y. sum-below (y .n) (λ i. written-at (getD (y .entries) i no-entry) i (crossing q i) e)) (k .site), k .sum);
         }
 
-  pub sound : in-range p ≡ true → ((i : ℕ) → i < p .site .n → crossing p i ≡ fresh-crossing true) → (es : List Command) → Sound p es
+  pub sound : in-range p ≡ true → ((i : ℕ) → i < p .site .n → crossing p i ≡ fresh-of (entry p i)) → (es : List Command) → Sound p es
   sound g fresh = snoc-induction (Sound p) (none g fresh) (λ es x k. by-test (taken (after p es) x) (taken-more es x k) (refused-more es x k))

@@ -1,7 +1,7 @@
 -- The stage of the ledger and the three numbers that the plant holds for it: a tick and settling do the same to both.
 use mathlib.Core.Path.{_≡_, refl}
 use mathlib.Core.Logic.{_⊎_, inl, inr}
-use mathlib.Core.Bool.{Bool, true, false, _&&_, false≢true}
+use mathlib.Core.Bool.{Bool, true, false, _&&_, _||_, false≢true}
 use Prim.Native.Nat.{ℕ, pred, _<_}
 use native.Mathlib.Omega.{arith}
 use lib.Dec.{eqb}
@@ -12,7 +12,7 @@ use Rattle.machine.specs.Plant.{lights-only}
 use Rattle.machine.specs.Effects.{phase-ticked, timer-ticked}
 use Rattle.machine.specs.Settling.{phase-settled, timer-settled, left-settled}
 use Rattle.machine.proofs.Tools.{by-test}
-use Rattle.demand.specs.Ledger.{Stage, free, warns, lowers, shut, rises, ticked, settled, ticks-left}
+use Rattle.demand.specs.Ledger.{Stage, free, warns, lowers, shut, rises, ticked, settled, is-free, ticks-left}
 
 -- phase, timer and ticks left to motorists
 pub record Clock : Type 0 where
@@ -64,6 +64,14 @@ module _ (s : Entry) where
   settle-clock stands true rises = by-test (stands && eqb (s .pause) 0) (λ q. rw q) (λ q. rw q)
   settle-clock stands false rises = refl
 
+-- phase 0 is open
+pub phase-free : (x : Stage) → eqb (numbers x .phase) 0 ≡ is-free x
+phase-free (free n) = refl
+phase-free (warns n) = refl
+phase-free (lowers n) = refl
+phase-free shut = refl
+phase-free rises = refl
+
 -- At rest --------------------------------------------------------------------------------------------------------------------------
 -- open or raising
 abbrev pub rests : Stage → Bool
@@ -80,6 +88,14 @@ resting (warns n) q = absurd (false≢true q)
 resting (lowers n) q = absurd (false≢true q)
 resting shut q = absurd (false≢true q)
 resting rises q = (inr refl, refl)
+
+-- phases 1 and 3 are not at rest
+pub not-resting : (x : Stage) → (eqb (numbers x .phase) 1 || eqb (numbers x .phase) 3) ≡ true → rests x ≡ false
+not-resting (free n) q = absurd (false≢true q)
+not-resting (warns n) q = refl
+not-resting (lowers n) q = absurd (false≢true q)
+not-resting shut q = refl
+not-resting rises q = absurd (false≢true q)
 
 -- ticks are left to motorists in phase 0 alone
 pub left-open : (x : Stage) → 0 < ticks-left x → numbers x .phase ≡ 0

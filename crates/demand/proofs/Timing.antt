@@ -7,7 +7,7 @@ use lib.Dec.{eqb}
 use borrow.Author.Tests.{eqb-true}
 use Rattle.machine.specs.declared.Entry.{Entry}
 use Rattle.machine.proofs.Tools.{by-test, by-cond}
-use Rattle.demand.specs.Words.{bit}
+use Rattle.demand.specs.Words.{bit, no-booms}
 use Rattle.demand.specs.Ledger.{Stage, free, warns, lowers, shut, rises, ticked, lifted, settled}
 use Rattle.demand.specs.Demand.{needed}
 use Rattle.demand.proofs.Stages.{rests}
@@ -59,7 +59,7 @@ module _ (s : Entry) where
 
     -- no reason: at rest
     lifts : Timed S s (lifted s)
-    lifts = by-cond (Timed S s) (eqb (s .kind) 1) (λ _. at-rest) (λ _. at-rest)
+    lifts = by-cond (Timed S s) (no-booms (s .kind)) (λ _. at-rest) (λ _. at-rest)
 
     pub timed-settled : (stands up : Bool) (x : Stage) → (stands ≡ true → S 0 × Timed S s x) → Timed S s (settled s stands up x)
     unfolding settled

@@ -1,8 +1,7 @@
--- Demand 3, one claim about every list of commands from the fresh plant of a book: the train account, the passage rule, the opening tick; with
--- T-01 the unsure track; with T-06 the time for motorists and closing in time. A command (T-04) is an event of any sender, or of a sheet and so
--- of none; a list may mix them.
+-- Demand 3, one claim about every list of commands from the fresh plant of a book, whose kinds are any of the six: the train account, the passage
+-- rule, in three with T-09, the opening tick; with T-01 the unsure track; with T-06 the time for motorists and closing in time. A command (T-04)
+-- is an event of any sender, or of a sheet and so of none; a list may mix them.
 use mathlib.Core.Path.{_≡_}
-use mathlib.Core.Logic.{_⊎_}
 use mathlib.Core.Bool.{Bool, true, false, _&&_}
 use mathlib.Core.List.{List, _++_, map}
 use Prim.Native.Nat.{ℕ, _+_, _*_, _%_, _≤_, _<_}
@@ -17,7 +16,7 @@ use Rattle.machine.specs.Events.{From, sheet, sender, Command, listed}
 use Rattle.machine.specs.Step.{step, after, carried}
 use Rattle.machine.specs.Panel.{panel}
 use Rattle.machine.specs.SiteBook.{read}
-use Rattle.demand.specs.Words.{bit, sum4, sum-over, all-up, all-closed}
+use Rattle.demand.specs.Words.{bit, sum4, sum-over, no-booms, all-up, all-closed}
 use Rattle.demand.specs.Ledger.{taken, log, ticks, strike-ins, passages, ticks-left, State, some-unsure, stands, state}
 
 -- p is the plant before the list es, and i a crossing of it ------------------------------------------------------------------------
@@ -89,15 +88,29 @@ Account p es i =
     let h = log p i es in
     strike-ins h ≡ passages h + known p i es .written + there (crossing (after p es) i)
 
--- what a train may rely on: a reason unbroken for long enough, the last reports of the booms as the kind demands, and the road's red whole
+-- the last report of a lamp is that it is whole
+abbrev pub whole-after : Plant → ℕ → List Command → ℕ → Type 0
+whole-after p i es l = known p i es .lamp l ≡ 1
+
+-- what a train may rely on: a reason unbroken for long enough, the last reports of the booms as the kind demands, with kind 6 those of their lamps
+-- too (T-09), and the road's red whole
 pub record Closed (p : Plant) (es : List Command) (i : ℕ) : Type 0 where
   pub unbroken : Unbroken p i (needed (entry p i)) es
   pub booms : all-closed (entry p i .kind) (known p i es .boom) ≡ true
-  pub red : known p i es .lamp 1 ≡ 1
+  pub boom-lamps : entry p i .kind ≡ 6 → whole-after p i es 5 × whole-after p i es 6
+  pub red : whole-after p i es 1
 
--- passage rule: passable (byte 6 is 2) or released (a bit of byte 8 is set) only then
-abbrev pub Passage : Plant → List Command → ℕ → Type 0
-Passage p es i = (shown (after p es) i 6 ≡ 2) ⊎ (0 < shown (after p es) i 8) → Closed p es i
+-- passage rule: passable (byte 6 is 2), at every kind but 5, only then
+abbrev pub Passable : Plant → List Command → ℕ → Type 0
+Passable p es i = (entry p i .kind ≡ 5 → ⊥) → shown (after p es) i 6 ≡ 2 → Closed p es i
+
+-- released (a bit of byte 8 is set), at every kind, only then
+abbrev pub Released : Plant → List Command → ℕ → Type 0
+Released p es i = 0 < shown (after p es) i 8 → Closed p es i
+
+-- the white of kind 5 (T-09): a reason stands and the road's red is whole; no ticks are asked
+abbrev pub White : Plant → List Command → ℕ → Type 0
+White p es i = entry p i .kind ≡ 5 → shown (after p es) i 6 ≡ 2 → (stands-after p i es ≡ true) × whole-after p i es 1
 
 -- no boom is ordered down (bytes 4 and 5); with all booms last reported up, one further tick leaves normal position (the normal bit of byte 9)
 pub record Opens (p : Plant) (es : List Command) (i : ℕ) : Type 0 where
@@ -126,7 +139,7 @@ Motorists p es i = 0 < left-after p i es → Pauses p es i
 -- all booms are ordered down: byte 10 is 3 for every kind, byte 4 is 1 for kinds with booms, byte 5 too for kind 4
 pub record Ordered (p : Plant) (es : List Command) (i : ℕ) : Type 0 where
   pub phase : shown (after p es) i 10 ≡ 3
-  pub right : eqb (entry p i .kind) 1 ≡ false → shown (after p es) i 4 ≡ 1
+  pub right : no-booms (entry p i .kind) ≡ false → shown (after p es) i 4 ≡ 1
   pub left : eqb (entry p i .kind) 4 ≡ true → shown (after p es) i 5 ≡ 1
 
 -- closing in time (T-06): that holds after k taken ticks throughout which a reason stands and all booms are last reported up
@@ -136,7 +149,9 @@ Closing k p es i = Ready p i k es → Ordered p es i
 -- the parts, per crossing
 pub record Kept (p : Plant) (es : List Command) (i : ℕ) : Type 0 where
   pub account : Account p es i
-  pub passage : Passage p es i
+  pub passable : Passable p es i
+  pub white : White p es i
+  pub released : Released p es i
   pub opening : Opening p es i
   pub unsure : Unsure p es i
   pub motorists : Motorists p es i

@@ -1,6 +1,6 @@
--- The ledger of a crossing: what the rules of document 01, amended by T-01 and T-06, make of its taken events, worked out from the list and not
+-- The ledger of a crossing: what the rules of document 01, amended by T-01, T-06 and T-09, make of its taken events, worked out from the list and not
 -- read from the plant.
-use mathlib.Core.Bool.{Bool, cond, not, _&&_, _||_}
+use mathlib.Core.Bool.{Bool, true, false, cond, not, _&&_, _||_}
 use mathlib.Core.List.{List, [], _∷_, _++_}
 use Prim.Native.Nat.{ℕ, _+_, pred}
 use lib.Dec.{eqb, ltb, leb}
@@ -9,7 +9,7 @@ use Rattle.machine.specs.declared.Plant.{Plant}
 use Rattle.machine.specs.declared.Event.{Event}
 use Rattle.machine.specs.Events.{Command}
 use Rattle.machine.specs.Step.{step}
-use Rattle.demand.specs.Words.{bit, sum4, some-track, is, is-to, is-at, depends, up, all-up}
+use Rattle.demand.specs.Words.{bit, sum4, some-track, is, is-to, is-at, depends, no-booms, under-1959, up, all-up}
 
 -- The taken events ---------------------------------------------------------------------------------------------------------------
 -- taken: answered with number 0, whoever sent it (T-04)
@@ -88,7 +88,7 @@ ticked s rises = rises
 
 -- no reason keeps it closed: raising, but lights only are open at once, with M ticks left (T-06)
 abbrev pub lifted : Entry → Stage
-lifted s = cond (eqb (s .kind) 1) (free (s .pause)) rises
+lifted s = cond (no-booms (s .kind)) (free (s .pause)) rises
 
 -- it settles, where a reason stands or not and every boom is last reported up or not: no warning begins while ticks are left, raising that ends
 -- leaves M of them, and a warning given up none (T-06)
@@ -99,6 +99,14 @@ settled s stands up (lowers n) = cond stands (lowers n) (lifted s)
 settled s stands up shut = cond stands shut (lifted s)
 settled s stands up rises = cond up (cond (stands && eqb (s .pause) 0) (warns (s .pre)) (free (s .pause))) rises
 
+-- the road is open
+abbrev pub is-free : Stage → Bool
+is-free (free n) = true
+is-free (warns n) = false
+is-free (lowers n) = false
+is-free shut = false
+is-free rises = false
+
 -- the ticks left to motorists (T-06)
 abbrev pub ticks-left : Stage → ℕ
 ticks-left (free n) = n
@@ -108,12 +116,13 @@ ticks-left shut = 0
 ticks-left rises = 0
 
 -- What a crossing is known to hold -----------------------------------------------------------------------------------------------
--- the queue of each track; 1 where a track is unsure (T-01); the value of the last event that set a route, reported a boom or a lamp, or put
--- a hold on or off; the release countdown; the trains written off; the stage
+-- the queue of each track; 1 where a track is unsure (T-01); the value of the last event that set a route, reported an approach, a boom or a
+-- lamp, or put a hold on or off; the release countdown; the trains written off; the stage; the ticks since normal position was left (T-09)
 pub record State : Type 0 where
   pub queue : ℕ → Queue
   pub unsure : ℕ → ℕ
   pub route : ℕ → ℕ
+  pub occupied : ℕ → ℕ
   pub boom : ℕ → ℕ
   pub lamp : ℕ → ℕ
   pub kiosk : ℕ
@@ -121,10 +130,24 @@ pub record State : Type 0 where
   pub countdown : ℕ
   pub written : ℕ
   pub stage : Stage
+  pub out : ℕ
 
--- before any event: no trains, routes or holds, no track unsure, every boom up, every lamp whole, the road open with no ticks left
+-- before any event: no trains, routes, occupation or holds, no track unsure, every boom up, every lamp whole, the road open with no ticks left
 abbrev pub start : State
-start = record { queue = λ t. empty; unsure = λ t. 0; route = λ t. 0; boom = λ b. up; lamp = λ l. 1; kiosk = 0; operator = 0; countdown = 0; written = 0; stage = free 0 }
+start = record {
+  queue = λ t. empty;
+  unsure = λ t. 0;
+  route = λ t. 0;
+  occupied = λ t. 0;
+  boom = λ b. up;
+  lamp = λ l. 1;
+  kiosk = 0;
+  operator = 0;
+  countdown = 0;
+  written = 0;
+  stage = free 0;
+  out = 0;
+}
 
 -- the trains of all tracks
 abbrev pub trains : State → ℕ
@@ -134,14 +157,26 @@ trains k = sum4 (λ t. k .queue t .calling + k .queue t .waiting)
 abbrev pub some-unsure : State → Bool
 some-unsure k = some-track (λ t. eqb (k .unsure t) 1)
 
+-- a hold is on
+abbrev pub held : State → Bool
+held k = eqb (k .kiosk) 1 || eqb (k .operator) 1
+
 -- a reason stands: some track is calling or a hold is on, or some track is unsure (T-01)
 unfoldable pub stands : State → Bool
-stands k = eqb (k .kiosk) 1 || eqb (k .operator) 1 || some-track (λ t. ltb 0 (k .queue t .calling)) || some-unsure k
+stands k = held k || some-track (λ t. ltb 0 (k .queue t .calling)) || some-unsure k
 
 -- One more event -------------------------------------------------------------------------------------------------------------------
--- a release completes: the tick on which a running countdown reaches 0
-abbrev pub completes : Event → State → Bool
-completes e k = is 0 e && eqb (k .countdown) 1
+-- the 1959 sheet's own release (T-09): at least 1,079 ticks out of normal, no hold on, every approach free
+abbrev pub too-long : Entry → State → Bool
+too-long s k = under-1959 (s .kind) && leb 1079 (k .out) && not (held k || some-track (λ t. eqb (k .occupied t) 1))
+
+-- what a tick must find for a release to complete: that, or a running countdown at its last tick
+abbrev pub due : Entry → State → Bool
+due s k = too-long s k || eqb (k .countdown) 1
+
+-- a release completes
+abbrev pub completes : Entry → Event → State → Bool
+completes s e k = is 0 e && due s k
 
 -- a swept strike-in (T-01): its track has 255 trains already
 abbrev pub swept : Event → State → Bool
@@ -150,7 +185,7 @@ swept e k = is 1 e && leb 255 (k .queue (e .place) .calling + k .queue (e .place
 -- a completed release clears a track; a swept strike-in leaves the counts (T-01); a strike-in calls on a plain track or with the route set
 unfoldable pub queue-next : Entry → Event → State → ℕ → Queue
 queue-next s e k t =
-    cond (completes e k) empty
+    cond (completes s e k) empty
     (cond (swept e k) (k .queue t)
     (cond (is-at 1 t e) (joined (not (depends s t) || eqb (k .route t) 1) (k .queue t))
     (cond (is-at 2 t e) (gone (k .queue t))
@@ -158,49 +193,58 @@ queue-next s e k t =
     (k .queue t)))))
 
 -- a completed release leaves no track unsure; a swept strike-in makes its own so (T-01)
-unfoldable pub unsure-next : Event → State → ℕ → ℕ
-unsure-next e k t = cond (completes e k) 0 (cond (swept e k && eqb (e .place) t) 1 (k .unsure t))
+unfoldable pub unsure-next : Entry → Event → State → ℕ → ℕ
+unsure-next s e k t = cond (completes s e k) 0 (cond (swept e k && eqb (e .place) t) 1 (k .unsure t))
 
--- a tick lowers the countdown, a time release sets it to 270; a strike-in, a hold on, a route set or an approach occupied make it 0
-unfoldable pub countdown-next : Event → ℕ → ℕ
-countdown-next e n =
-    cond (is 0 e) (pred n)
+-- a completed release leaves no countdown (T-09); a tick lowers it, a time release sets it to 270; a strike-in, a hold on, a route set or an
+-- approach occupied make it 0
+unfoldable pub countdown-next : Entry → Event → State → ℕ
+countdown-next s e k =
+    cond (completes s e k) 0
+    (cond (is 0 e) (pred (k .countdown))
     (cond (is 7 e) 270
     (cond (is 1 e || is-to 3 1 e || is-to 4 1 e || is-to 5 1 e || is-to 6 1 e) 0
-    n))
+    (k .countdown))))
 
 -- what an event does before the crossing settles: a hold, a route or a report is what the last event of its code says; the trains that a completed
 -- release clears are written off, and so is that of a swept strike-in (T-01)
 unfoldable pub worked : Entry → Event → State → State
 worked s e k = record {
   queue = queue-next s e k;
-  unsure = unsure-next e k;
+  unsure = unsure-next s e k;
   route = λ t. cond (is-at 5 t e) (e .value) (k .route t);
+  occupied = λ t. cond (is-at 6 t e) (e .value) (k .occupied t);
   boom = λ b. cond (is-at 8 b e) (e .value) (k .boom b);
   lamp = λ l. cond (is-at 9 l e) (e .value) (k .lamp l);
   kiosk = cond (is 3 e) (e .value) (k .kiosk);
   operator = cond (is 4 e) (e .value) (k .operator);
-  countdown = countdown-next e (k .countdown);
-  written = k .written + bit (completes e k) (trains k) + bit (swept e k) 1;
+  countdown = countdown-next s e k;
+  written = k .written + bit (completes s e k) (trains k) + bit (swept e k) 1;
   stage = cond (is 0 e) (ticked s (k .stage)) (k .stage);
+  out = k .out;
 }
 
--- then the crossing settles
-unfoldable pub rested : Entry → State → State
-rested s k = record {
-  queue = k .queue;
-  unsure = k .unsure;
-  route = k .route;
-  boom = k .boom;
-  lamp = k .lamp;
-  kiosk = k .kiosk;
-  operator = k .operator;
-  countdown = k .countdown;
-  written = k .written;
-  stage = settled s (stands k) (all-up (s .kind) (k .boom)) (k .stage);
-}
+-- then the crossing settles; in normal position no ticks out of it are counted, otherwise those of the event, 1 or 0, are added (T-09)
+unfoldable pub rested : Entry → ℕ → State → State
+rested s add k =
+    let raised = all-up (s .kind) (k .boom) in
+    let next = settled s (stands k) raised (k .stage) in
+    record {
+      queue = k .queue;
+      unsure = k .unsure;
+      route = k .route;
+      occupied = k .occupied;
+      boom = k .boom;
+      lamp = k .lamp;
+      kiosk = k .kiosk;
+      operator = k .operator;
+      countdown = k .countdown;
+      written = k .written;
+      stage = next;
+      out = cond (is-free next && raised) 0 (k .out + add);
+    }
 
 -- over a log, event by event
 unfoldable pub state : Entry → List Event → State
 state s [] = start
-state s (e ∷ h) = rested s (worked s e (state s h))
+state s (e ∷ h) = rested s (bit (is 0 e) 1) (worked s e (state s h))

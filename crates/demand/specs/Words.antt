@@ -41,9 +41,17 @@ is-at code place e = is code e && eqb (e .place) place
 unfoldable pub depends : Entry → ℕ → Bool
 depends s t = eqb ((s .mask / (2 ^ t)) % 2) 1
 
--- Booms 0 and 1 stand right of the road (none for kind 1); 2 and 3 left, kind 4 alone
+-- Kinds 1 and 5 have lights only (T-09)
+abbrev pub no-booms : ℕ → Bool
+no-booms kind = eqb kind 1 || eqb kind 5
+
+-- Kinds 5 and 6 are under the 1959 sheet (T-09)
+abbrev pub under-1959 : ℕ → Bool
+under-1959 kind = eqb kind 5 || eqb kind 6
+
+-- Booms 0 and 1 stand right of the road (none for kinds 1 and 5); 2 and 3 left, kind 4 alone
 abbrev pub boom-count : ℕ → ℕ
-boom-count kind = cond (eqb kind 1) 0 (cond (eqb kind 4) 4 2)
+boom-count kind = cond (no-booms kind) 0 (cond (eqb kind 4) 4 2)
 
 -- the test holds of each boom that a kind has
 abbrev pub each-boom : ℕ → (ℕ → Bool) → Bool
@@ -68,9 +76,9 @@ down = 2
 unfoldable pub all-up : ℕ → (ℕ → ℕ) → Bool
 all-up kind report = each-boom kind (λ b. eqb (report b) up)
 
--- how a kind demands a boom: kind 2 reported moving or down (T-02), kinds 3 and 4 reported down
+-- how a kind demands a boom: kinds 2 and 6 (T-09) reported moving or down (T-02), kinds 3 and 4 reported down
 abbrev pub as-demanded : ℕ → ℕ → Bool
-as-demanded kind report = cond (eqb kind 2) (eqb report moving || eqb report down) (eqb report down)
+as-demanded kind report = cond (eqb kind 2 || eqb kind 6) (eqb report moving || eqb report down) (eqb report down)
 
 -- every boom as the kind demands
 unfoldable pub all-closed : ℕ → (ℕ → ℕ) → Bool

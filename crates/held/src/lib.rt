@@ -4,8 +4,7 @@ use machine::Entry;
 use machine::reports;
 ghost use mathlib.Core.Path.{_≡_};
 ghost use Rattle.machine.specs.Common.{all-below};
-ghost use Rattle.machine.specs.Plant.{lamp-flag};
-ghost use Rattle.machine.specs.Range.{report-limit, boom-in, crossing-in, flag-in, left-limit, phase-in};
+ghost use Rattle.machine.specs.Range.{report-limit, boom-in, crossing-in, lamp-in, left-limit, phase-in};
 
 // The highest report of a boom (document 02, T-02); a boom that the crossing lacks stays at 0.
 fn report_limit(present: bool) -> u8
@@ -25,15 +24,18 @@ fn booms_in(s: Entry, c: Crossing) -> bool
         & (c.booms[3] <= report_limit(3 < count))
 }
 
-// The last report of each lamp is 0 or 1.
-fn lamps_in(c: Crossing) -> bool
-    ensures { λ r. ⌜ r ≡ all-below 5 (λ l. flag-in (lamp-flag c l)) ⌝ }
+// The last report of each lamp is 0 or 1; that of a lamp which the crossing lacks stays at 0 (document 02, T-09).
+fn lamps_in(s: Entry, c: Crossing) -> bool
+    ensures { λ r. ⌜ r ≡ all-below 7 (lamp-in s c) ⌝ }
 {
+    let boom = kind::old_booms(s.kind) as u8;
     (c.lamps[0] <= 1)
         & (c.lamps[1] <= 1)
         & (c.lamps[2] <= 1)
         & (c.lamps[3] <= 1)
         & (c.lamps[4] <= 1)
+        & (c.lamps[5] <= boom)
+        & (c.lamps[6] <= boom)
 }
 
 // The timer is in the range that its phase gives it.
@@ -42,7 +44,7 @@ fn phase_in(s: Entry, phase: u8, timer: u16) -> bool
 {
     match phase {
         1 => (1 <= timer) & (timer <= s.pre),
-        2 => (s.kind == 4) & ((1 <= timer) & (timer <= s.gap)),
+        2 => kind::four_booms(s.kind) & ((1 <= timer) & (timer <= s.gap)),
         _ => (timer == 0)
             & ((phase == 0) | (phase == 3) | ((phase == 4) & !kind::lights_only(s.kind))),
     }
@@ -64,10 +66,10 @@ pub fn crossing_in(s: Entry, c: Crossing) -> bool
         & track::track_in(s, c, 2)
         & track::track_in(s, c, 3))
         & booms_in(s, c)
-        & lamps_in(c)
+        & lamps_in(s, c)
         & ((c.kiosk <= 1) & (c.operator <= 1))
         & (c.countdown <= Crossing::RELEASE)
         & phase_in(s, c.phase, c.timer)
         & (c.left <= left_limit(s, c.phase))
-        & (c.out <= Crossing::OVERDUE + 1)
+        & (c.out <= Crossing::MOST)
 }

@@ -1,16 +1,16 @@
--- The limits 255, 900 and 3 (the last boom report, T-02) to the unit, in plain numbers.
+-- The limits 255, 900, 1,080 (T-09) and 3 (the last boom report, T-02) to the unit, in plain numbers.
 use mathlib.Core.Path.{_≡_, refl}
 use mathlib.Core.Bool.{true, false, cond, and-true}
 use Prim.Native.Nat.{ℕ, zero, suc, _≤_, _<_}
 use native.Mathlib.Omega.{arith}
 use lib.Dec.{ltb, leb}
-use borrow.Author.Tests.{ltb-true, ltb-false, le-leb, lt-leb, eq-eqb}
+use borrow.Author.Tests.{ltb-true, ltb-false, leb-true, leb-false, lt-ltb, lt-leb, eq-eqb}
 use Rattle.machine.specs.Common.{bit, refuse}
 use Rattle.machine.specs.declared.Entry.{Entry}
 use Rattle.machine.specs.declared.Crossing.{Crossing}
 use Rattle.machine.specs.declared.Plant.{Plant}
 use Rattle.machine.specs.declared.Event.{Event}
-use Rattle.machine.specs.Plant.{overdue-ticks, boom-count, unsure-flag, trains, entry}
+use Rattle.machine.specs.Plant.{overdue-ticks, most-ticks, boom-count, unsure-flag, trains, entry}
 use Rattle.machine.specs.Range.{in-range}
 use Rattle.machine.specs.Events.{listed, is-known, entitled, place-limit, value-limit, refusal, number}
 use Rattle.machine.specs.Effects.{unsure-after, written-at}
@@ -52,20 +52,21 @@ unfoldable pub out-after : ℕ → ℕ
 out-after zero = 0
 out-after (suc n) = out-settled false 1 (out-after n)
 
-before : (n : ℕ) → n ≤ 900 → out-after n ≡ n
+before : (n : ℕ) → n ≤ 1080 → out-after n ≡ n
 unfolding out-settled out-after
 before zero l = refl
-before (suc n) l = rw (before n (omega arith), le-leb n overdue-ticks (omega arith)) (omega arith)
+before (suc n) l = rw (before n (omega arith), lt-ltb n most-ticks (omega arith)) (omega arith)
 
-past : (n : ℕ) → 900 < n → out-after n ≡ 901
+-- they run to 1,080 (T-09)
+pub most : (n : ℕ) → 1080 ≤ n → out-after n ≡ 1080
 unfolding out-settled out-after
-past zero l = absurd (omega arith)
-past (suc n) l = by-test (ltb 900 n)
-    (λ q. rw (past n (ltb-true _ _ q)))
-    (λ q. let m : n ≤ 900 = ltb-false _ _ q in rw (before n m, le-leb n overdue-ticks m) (omega arith))
+most zero l = absurd (omega arith)
+most (suc n) l = by-test (ltb n 1080)
+    (λ q. let m : n < 1080 = ltb-true _ _ q in rw (before n (omega arith), q) (omega arith))
+    (λ q. rw (most n (ltb-false _ _ q)))
 
 -- 900 ticks leave the panel's bit clear, 901 set it
 pub overdue : (n : ℕ) → ltb overdue-ticks (out-after n) ≡ ltb 900 n
-overdue n = by-test (ltb 900 n)
-    (λ q. rw (q, past n (ltb-true _ _ q)))
-    (λ q. let l : n ≤ 900 = ltb-false _ _ q in rw (before n l))
+overdue n = by-test (leb n 1080)
+    (λ q. rw (before n (leb-true _ _ q)))
+    (λ q. let l : 1080 < n = leb-false _ _ q in rw (most n (omega arith), lt-ltb 900 n (omega arith)))

@@ -6,10 +6,10 @@ use Prim.Native.Nat.{ℕ, _+_, _*_, _≤_, _<_}
 use native.Mathlib.Omega.{arith}
 use lib.Dec.{eqb, ltb, leb, leb·zero, lit≤}
 use lib.ListN.{getD, length, length-append}
-use borrow.Author.Tests.{eqb-true, eqb-false, eq-eqb, leb-true, lt-ltb, le-ltb, not-false}
-use Rattle.machine.specs.Common.{tab, all-below}
-use Rattle.machine.specs.Plant.{Entry, Site, Plant, entry, crossing, no-entry, no-crossing, fresh-crossing, fresh-plant, boom-count}
-use Rattle.machine.specs.Range.{entry-in, entry-zero, report-limit, boom-in, crossing-zero, count-in, in-range}
+use borrow.Author.Tests.{eqb-true, eqb-false, eq-eqb, leb-true, le-leb, lt-ltb, le-ltb, not-false}
+use Rattle.machine.specs.Common.{tab, all-below, bit}
+use Rattle.machine.specs.Plant.{Entry, Site, Crossing, Plant, entry, crossing, no-entry, no-crossing, fresh-crossing, fresh-plant, boom-count, lamp-count, lamps-at}
+use Rattle.machine.specs.Range.{entry-in, entry-zero, report-limit, boom-in, lamp-in, crossing-zero, count-in, in-range}
 use Rattle.machine.specs.Events.{Command, is, number}
 use Rattle.machine.specs.Step.{touch, apply, step}
 use Rattle.machine.specs.Panel.{row, panel}
@@ -20,11 +20,14 @@ use Rattle.machine.proofs.Entries.{at-most-eight}
 use Rattle.machine.proofs.Ranges.{TrackIn, TrackAt, opened, CrossingIn, NoCrossing, no-crossing-reads, PlantIn, plant-tests}
 
 -- A fresh plant is in range --------------------------------------------------------------------------------------------------------
-fresh-used : (s : Entry) → CrossingIn s (fresh-crossing true)
+abbrev pub fresh-of : Entry → Crossing
+fresh-of s = fresh-crossing (lamp-count (s .kind))
+
+fresh-used : (s : Entry) → CrossingIn s (fresh-of s)
 fresh-used s = record {
-  track = below4 (TrackAt s (fresh-crossing true)) (empty 0) (empty 1) (empty 2) (empty 3);
-  boom = below4 (λ b. boom-in s (fresh-crossing true) b ≡ true) (up 0) (up 1) (up 2) (up 3);
-  lamp = each-tab 5 (λ l. 1) 0 (λ l x. x ≤ 1) (λ l b. lit≤ tt);
+  track = below4 (TrackAt s (fresh-of s)) (empty 0) (empty 1) (empty 2) (empty 3);
+  boom = below4 (λ b. boom-in s (fresh-of s) b ≡ true) (up 0) (up 1) (up 2) (up 3);
+  lamp = each-tab 7 (λ l. bit (ltb l (lamp-count (s .kind))) 1) 0 (λ l x. leb x (bit (ltb l (lamp-count (s .kind))) 1) ≡ true) (λ l b. le-leb (bit (ltb l (lamp-count (s .kind))) 1) _ (omega arith));
   kiosk = lit≤ tt;
   operator = lit≤ tt;
   countdown = lit≤ tt;
@@ -65,8 +68,8 @@ fresh-plant-in s q t z =
       past = λ i l m. rw (at i l, le-ltb i (s .n) m) fresh-past;
     }
   where
-    at : (i : ℕ) → i < 8 → getD (tab 8 (λ j. fresh-crossing (ltb j (s .n)))) i no-crossing ≡ fresh-crossing (ltb i (s .n))
-    at i l = getD-tab 8 (λ j. fresh-crossing (ltb j (s .n))) no-crossing i l
+    at : (i : ℕ) → i < 8 → getD (tab 8 (λ j. fresh-crossing (lamps-at s j))) i no-crossing ≡ fresh-crossing (lamps-at s i)
+    at i l = getD-tab 8 (λ j. fresh-crossing (lamps-at s j)) no-crossing i l
 
 -- what a book read with number 0 passed
 pub record BookIn (b : List ℕ) : Type 0 where

@@ -6,7 +6,7 @@ use native.Mathlib.Omega.{arith}
 use lib.Dec.{eqb}
 use borrow.Author.Tests.{eqb-true, eqb-false}
 use Rattle.machine.specs.Common.{bit}
-use Rattle.machine.specs.Plant.{Entry, lights-only}
+use Rattle.machine.specs.Plant.{Entry, lights-only, four-booms}
 use Rattle.machine.specs.Range.{left-limit}
 use Rattle.machine.specs.Effects.{to-gap, phase-ticked, timer-ticked}
 use Rattle.machine.specs.Settling.{phase-settled, timer-settled, left-settled}
@@ -25,7 +25,7 @@ module _ (s : Entry) (g : EntryIn s) where
   -- what a timer that runs out leads to
   runs-out : (phase : ℕ) → PhaseIn s (cond (to-gap s phase) 2 3) (bit (to-gap s phase) (s .gap))
   runs-out phase = by-test (to-gap s phase)
-      (λ q. let four = and-both (eqb phase 1) (eqb (s .kind) 4) q .1 in rw q (right refl four (some-gap g four) (omega arith)))
+      (λ q. let four = and-both (eqb phase 1) (four-booms (s .kind)) q .1 in rw q (right refl four (some-gap g four) (omega arith)))
       (λ q. rw q (closed refl refl))
 
   pub phase-ticks : {phase timer : ℕ} → PhaseIn s phase timer → PhaseIn s (phase-ticked s phase timer) (timer-ticked s phase timer)

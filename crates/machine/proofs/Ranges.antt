@@ -1,13 +1,13 @@
 -- What the range tests say, as facts: a test that holds gives its record, and the record gives the test.
 use mathlib.Core.Path.{_≡_, ap}
 use mathlib.Core.Bool.{Bool, true, false, not, _&&_, _||_}
-use Prim.Native.Nat.{ℕ, suc, _+_, _≤_, _<_}
+use Prim.Native.Nat.{ℕ, _+_, _≤_, _<_}
 use native.Mathlib.Omega.{arith}
 use lib.Dec.{eqb, ltb, leb}
 use borrow.Author.Tests.{eqb-true, leb-true, ltb-true, ltb-false, not-true, eq-eqb, le-leb, lt-ltb, le-ltb}
 use Rattle.machine.specs.Common.{all-below}
-use Rattle.machine.specs.Plant.{Entry, Crossing, Plant, release-ticks, overdue-ticks, full, calling, waiting, route-flag, occupied-flag, unsure-flag, boom, lamp-flag, trains, entry, crossing, dependent, lights-only}
-use Rattle.machine.specs.Range.{entry-in, entry-zero, flag-in, track-zero, track-in, boom-in, phase-in, left-limit, crossing-in, crossing-zero, place-in, count-in, in-range}
+use Rattle.machine.specs.Plant.{Entry, Crossing, Plant, release-ticks, most-ticks, full, calling, waiting, route-flag, occupied-flag, unsure-flag, boom, lamp-flag, trains, entry, crossing, dependent, lights-only, four-booms}
+use Rattle.machine.specs.Range.{entry-in, entry-zero, flag-in, track-zero, track-in, boom-in, lamp-in, phase-in, left-limit, crossing-in, crossing-zero, place-in, count-in, in-range}
 use Rattle.machine.proofs.Tools.{by-test, by-cond, and-both, and-intro, or-right, or-left-false, all-below-intro, all-below-at}
 use Rattle.machine.proofs.Entries.{EntryIn, entry-reads}
 
@@ -74,7 +74,7 @@ module _ (c : Crossing) (t : ℕ) where
 pub data PhaseIn (s : Entry) (phase timer : ℕ) : Type 0 where
   opened : phase ≡ 0 → timer ≡ 0 → PhaseIn s phase timer
   warning : phase ≡ 1 → 1 ≤ timer → timer ≤ s .pre → PhaseIn s phase timer
-  right : phase ≡ 2 → eqb (s .kind) 4 ≡ true → 1 ≤ timer → timer ≤ s .gap → PhaseIn s phase timer
+  right : phase ≡ 2 → four-booms (s .kind) ≡ true → 1 ≤ timer → timer ≤ s .gap → PhaseIn s phase timer
   closed : phase ≡ 3 → timer ≡ 0 → PhaseIn s phase timer
   raising : phase ≡ 4 → timer ≡ 0 → lights-only (s .kind) ≡ false → PhaseIn s phase timer
 
@@ -97,37 +97,37 @@ module _ (s : Entry) (phase timer : ℕ) where
   phase-reads q = by-test (eqb phase 1)
       (λ a. let b = and-both (leb 1 timer) _ (rw a at q) in warning (eqb-true _ _ a) (leb-true _ _ (b .0)) (leb-true _ _ (b .1)))
       (λ a. by-test (eqb phase 2)
-      (λ b. let d = and-both (eqb (s .kind) 4) _ (rw (a, b) at q) in let f = and-both (leb 1 timer) _ (d .1) in right (eqb-true _ _ b) (d .0) (leb-true _ _ (f .0)) (leb-true _ _ (f .1)))
+      (λ b. let d = and-both (four-booms (s .kind)) _ (rw (a, b) at q) in let f = and-both (leb 1 timer) _ (d .1) in right (eqb-true _ _ b) (d .0) (leb-true _ _ (f .0)) (leb-true _ _ (f .1)))
       (λ b. let d = and-both (eqb timer 0) _ (rw (a, b) at q) in rest (eqb-true _ _ (d .0)) (d .1)))
 
 -- One crossing ---------------------------------------------------------------------------------------------------------------------
 pub record CrossingIn (s : Entry) (c : Crossing) : Type 0 where
   pub track : (t : ℕ) → t < 4 → TrackAt s c t
   pub boom : (b : ℕ) → b < 4 → boom-in s c b ≡ true
-  pub lamp : (l : ℕ) → l < 5 → lamp-flag c l ≤ 1
+  pub lamp : (l : ℕ) → l < 7 → lamp-in s c l ≡ true
   pub kiosk : c .kiosk ≤ 1
   pub operator : c .operator ≤ 1
   pub countdown : c .countdown ≤ release-ticks
   pub phase : PhaseIn s (c .phase) (c .timer)
   pub left : c .left ≤ left-limit s (c .phase)
-  pub out : c .out ≤ suc overdue-ticks
+  pub out : c .out ≤ most-ticks
 
 module _ (s : Entry) (c : Crossing) where
   pub crossing-reads : crossing-in s c ≡ true → CrossingIn s c
   unfolding crossing-in
   crossing-reads q =
-      let o = and-both _ (leb (c .out) (suc overdue-ticks)) q in
+      let o = and-both _ (leb (c .out) most-ticks) q in
       let n = and-both _ (leb (c .left) (left-limit s (c .phase))) (o .0) in
       let p = and-both _ (phase-in s (c .phase) (c .timer)) (n .0) in
       let d = and-both _ (leb (c .countdown) release-ticks) (p .0) in
       let k = and-both _ (flag-in (c .kiosk) && flag-in (c .operator)) (d .0) in
       let f = and-both (flag-in (c .kiosk)) (flag-in (c .operator)) (k .1) in
-      let m = and-both _ (all-below 5 (λ l. flag-in (lamp-flag c l))) (k .0) in
+      let m = and-both _ (all-below 7 (lamp-in s c)) (k .0) in
       let b = and-both (all-below 4 (track-in s c)) (all-below 4 (boom-in s c)) (m .0) in
       record {
         track = λ t l. track-reads c t s (all-below-at 4 (track-in s c) (b .0) t l);
         boom = all-below-at 4 (boom-in s c) (b .1);
-        lamp = λ n l. leb-true _ _ (all-below-at 5 (λ l. flag-in (lamp-flag c l)) (m .1) n l);
+        lamp = all-below-at 7 (lamp-in s c) (m .1);
         kiosk = leb-true _ _ (f .0);
         operator = leb-true _ _ (f .1);
         countdown = leb-true _ _ (d .1);
@@ -142,7 +142,7 @@ module _ (s : Entry) (c : Crossing) where
       and-intro (and-intro (and-intro (and-intro (and-intro (and-intro (and-intro
       (all-below-intro 4 (track-in s c) (λ t l. track-tests c t s (h .track t l)))
       (all-below-intro 4 (boom-in s c) (h .boom)))
-      (all-below-intro 5 (λ l. flag-in (lamp-flag c l)) (λ l m. le-leb _ _ (h .lamp l m))))
+      (all-below-intro 7 (lamp-in s c) (h .lamp)))
       (and-intro (le-leb _ _ (h .kiosk)) (le-leb _ _ (h .operator))))
       (le-leb _ _ (h .countdown)))
       (phase-tests s (c .phase) (c .timer) (h .phase)))
@@ -153,7 +153,7 @@ module _ (s : Entry) (c : Crossing) where
 pub record NoCrossing (c : Crossing) : Type 0 where
   pub track : (t : ℕ) → t < 4 → ZeroAt c t
   pub boom : (b : ℕ) → b < 4 → boom c b ≡ 0
-  pub lamp : (l : ℕ) → l < 5 → lamp-flag c l ≡ 0
+  pub lamp : (l : ℕ) → l < 7 → lamp-flag c l ≡ 0
   pub kiosk : c .kiosk ≡ 0
   pub operator : c .operator ≡ 0
   pub countdown : c .countdown ≡ 0
@@ -173,12 +173,12 @@ module _ (c : Crossing) where
       let d = and-both _ (eqb (c .countdown) 0) (p .0) in
       let h = and-both _ (eqb (c .operator) 0) (d .0) in
       let k = and-both _ (eqb (c .kiosk) 0) (h .0) in
-      let l = and-both _ (all-below 5 (λ l. eqb (lamp-flag c l) 0)) (k .0) in
+      let l = and-both _ (all-below 7 (λ l. eqb (lamp-flag c l) 0)) (k .0) in
       let b = and-both (all-below 4 (track-zero c)) (all-below 4 (λ b. eqb (boom c b) 0)) (l .0) in
       record {
         track = λ t m. zero-reads c t (all-below-at 4 (track-zero c) (b .0) t m);
         boom = λ n m. eqb-true _ _ (all-below-at 4 (λ b. eqb (boom c b) 0) (b .1) n m);
-        lamp = λ n m. eqb-true _ _ (all-below-at 5 (λ l. eqb (lamp-flag c l) 0) (l .1) n m);
+        lamp = λ n m. eqb-true _ _ (all-below-at 7 (λ l. eqb (lamp-flag c l) 0) (l .1) n m);
         kiosk = eqb-true _ _ (k .1);
         operator = eqb-true _ _ (h .1);
         countdown = eqb-true _ _ (d .1);
@@ -194,7 +194,7 @@ module _ (c : Crossing) where
       and-intro (and-intro (and-intro (and-intro (and-intro (and-intro (and-intro (and-intro (and-intro
       (all-below-intro 4 (track-zero c) (λ t m. zero-tests c t (h .track t m)))
       (all-below-intro 4 (λ b. eqb (boom c b) 0) (λ b m. eq-eqb _ _ (h .boom b m))))
-      (all-below-intro 5 (λ l. eqb (lamp-flag c l) 0) (λ l m. eq-eqb _ _ (h .lamp l m))))
+      (all-below-intro 7 (λ l. eqb (lamp-flag c l) 0) (λ l m. eq-eqb _ _ (h .lamp l m))))
       (eq-eqb _ _ (h .kiosk))) (eq-eqb _ _ (h .operator)))
       (eq-eqb _ _ (h .countdown))) (eq-eqb _ _ (h .phase))) (eq-eqb _ _ (h .timer))) (eq-eqb _ _ (h .left))) (eq-eqb _ _ (h .out))
 

@@ -5,13 +5,13 @@ use Prim.Native.Nat.{ℕ, suc, _+_, _≤_, _<_}
 use native.Mathlib.Omega.{arith}
 use lib.Dec.{eqb, ltb, leb, lit≤, lit<}
 use lib.ListN.{getD}
-use borrow.Author.Tests.{eqb-true, eqb-false, leb-true, leb-false, le-leb, lt-ltb}
+use borrow.Author.Tests.{eqb-true, eqb-false, leb-false, le-leb, ltb-true, lt-ltb}
 use Rattle.machine.specs.Common.{tab, bit}
-use Rattle.machine.specs.Plant.{Entry, Crossing, Plant, release-ticks, overdue-ticks, full, calling, waiting, route-flag, occupied-flag, unsure-flag, boom, lamp-flag, trains, entry, crossing, no-crossing, dependent, boom-count, reason, booms-up}
+use Rattle.machine.specs.Plant.{Entry, Crossing, Plant, release-ticks, most-ticks, full, calling, waiting, route-flag, occupied-flag, unsure-flag, boom, lamp-flag, trains, entry, crossing, no-crossing, dependent, boom-count, lamp-count, reason, booms-up}
 use Rattle.machine.specs.Reports.{lost}
-use Rattle.machine.specs.Range.{in-range, report-limit, boom-in}
+use Rattle.machine.specs.Range.{in-range, report-limit, boom-in, lamp-in}
 use Rattle.machine.specs.Events.{Event, Command, is, is-at, on-track, place-limit, value-limit, number}
-use Rattle.machine.specs.Effects.{sweeps, calling-after, waiting-after, unsure-after, cancels, act, releases, phase-ticked, timer-ticked, tick}
+use Rattle.machine.specs.Effects.{sweeps, calling-after, waiting-after, unsure-after, cancels, act, overlong, releases, phase-ticked, timer-ticked, tick}
 use Rattle.machine.specs.Settling.{phase-settled, timer-settled, left-settled, out-settled, with-phase, settle}
 use Rattle.machine.specs.Step.{touch, apply, step}
 use Rattle.machine.proofs.Tools.{by-test, by-cond, and-both, getD-tab, each-tab}
@@ -23,13 +23,13 @@ use Rattle.machine.proofs.Phases.{less, phase-ticks, phase-settles, lef
 
 -- One crossing --------------------------------------------------------------------------------------------------------------------
 -- what a completed release clears, at track t
-cleared-at : (c : Crossing) (f : ℕ → ℕ) (t : ℕ) → t < 4 → getD (tab 4 (λ u. cond (releases c) 0 (f u))) t 0 ≡ cond (releases c) 0 (f t)
-cleared-at c f t l = getD-tab 4 (λ u. cond (releases c) 0 (f u)) 0 t l
+cleared-at : (s : Entry) (c : Crossing) (f : ℕ → ℕ) (t : ℕ) → t < 4 → getD (tab 4 (λ u. cond (releases s c) 0 (f u))) t 0 ≡ cond (releases s c) 0 (f t)
+cleared-at s c f t l = getD-tab 4 (λ u. cond (releases s c) 0 (f u)) 0 t l
 
 module _ (s : Entry) (g : EntryIn s) where
-  out-law : (normal : Bool) (add out : ℕ) → add ≤ 1 → out-settled normal add out ≤ suc overdue-ticks
+  out-law : (normal : Bool) (add out : ℕ) → add ≤ 1 → out-settled normal add out ≤ most-ticks
   unfolding out-settled
-  out-law normal add out l = by-cond (λ x. x ≤ suc overdue-ticks) normal (λ _. omega arith) (λ _. by-cond (λ x. x ≤ suc overdue-ticks) (leb out overdue-ticks) (λ t. omega (arith, leb-true)) (λ _. omega arith))
+  out-law normal add out l = by-cond (λ x. x ≤ most-ticks) normal (λ _. omega arith) (λ _. by-cond (λ x. x ≤ most-ticks) (ltb out most-ticks) (λ t. omega (arith, ltb-true)) (λ _. omega arith))
 
   settles : (add : ℕ) (c : Crossing) → add ≤ 1 → CrossingIn s c → CrossingIn s (settle s add c)
   unfolding settle
@@ -48,12 +48,12 @@ module _ (s : Entry) (g : EntryIn s) where
   ticks : (c : Crossing) → CrossingIn s c → CrossingIn s (tick s c)
   unfolding tick
   ticks c h = record {
-    track = λ t l. let k = h .track t l in rw (cleared-at c (calling c) t l, cleared-at c (waiting c) t l, cleared-at c (unsure-flag c) t l) (cleared t (releases c) k);
+    track = λ t l. let k = h .track t l in rw (cleared-at s c (calling c) t l, cleared-at s c (waiting c) t l, cleared-at s c (unsure-flag c) t l) (cleared t (releases s c) k);
     boom = h .boom;
     lamp = h .lamp;
     kiosk = h .kiosk;
     operator = h .operator;
-    countdown = less (c .countdown) release-ticks (h .countdown);
+    countdown = by-cond (λ x. x ≤ release-ticks) (releases s c) (λ _. omega arith) (λ _. less (c .countdown) release-ticks (h .countdown));
     phase = phase-ticks s g (h .phase);
     left = left-ticks s g (h .phase) (h .left);
     out = h .out;
@@ -152,6 +152,18 @@ module _ (s : Entry) (g : EntryIn s) where
         rw (lt-ltb _ _ l) (le-leb (e .value) lost (omega (arith, v, most))))
         (λ _. h)
 
+    lamp-acts : (l : ℕ) → lamp-in s c l ≡ true → leb (cond (is-at 9 l e) (e .value) (lamp-flag c l)) (bit (ltb l (lamp-count (s .kind))) 1) ≡ true
+    unfolding place-limit value-limit
+    lamp-acts l h = by-cond (λ x. leb x (bit (ltb l (lamp-count (s .kind))) 1) ≡ true) (is-at 9 l e)
+        (λ q.
+        let k = and-both (is 9 e) (eqb (e .place) l) q in
+        let nine : e .code ≡ 9 = eqb-true _ _ (k .0) in
+        let at : e .place ≡ l = eqb-true _ _ (k .1) in
+        let has : l < lamp-count (s .kind) = rw at at (rw nine at (a .place)) in
+        let v : e .value < 2 = rw nine at (a .value) in
+        rw (lt-ltb _ _ has) (le-leb (e .value) 1 (omega arith)))
+        (λ _. h)
+
     acts : CrossingIn s c → CrossingIn s (act s c e)
     unfolding act value-limit
     acts h = record {
@@ -164,7 +176,7 @@ module _ (s : Entry) (g : EntryIn s) where
       )
           (track-acts t (h .track t l));
       boom = λ b l. rw (getD-tab 4 (λ b. cond (is-at 8 b e) (e .value) (boom c b)) 0 b l) (boom-acts b (h .boom b l));
-      lamp = each-tab 5 (λ l. cond (is-at 9 l e) (e .value) (lamp-flag c l)) 0 (λ l x. x ≤ 1) (λ l b. flag-at 9 l refl (h .lamp l b));
+      lamp = λ l b. rw (getD-tab 7 (λ l. cond (is-at 9 l e) (e .value) (lamp-flag c l)) 0 l b) (lamp-acts l (h .lamp l b));
       kiosk = flag 3 (is 3 e) refl (λ q. q) (h .kiosk);
       operator = flag 4 (is 4 e) refl (λ q. q) (h .operator);
       countdown = by-cond (λ x. x ≤ release-ticks) (is 7 e) (λ _. omega arith) (λ _. by-cond (λ x. x ≤ release-ticks) (cancels e) (λ _. omega arith) (λ _. h .countdown));
@@ -192,15 +204,20 @@ module _ (s : Entry) (none : s .kind ≡ 0) where
   unfolding settle phase-settled timer-settled left-settled out-settled booms-up
   zero-settles c h = simp (no-reason c h, none, h .phase, h .timer, h .boom 0 (lit< tt), h .boom 1 (lit< tt)) (same-phase c (h .phase) (h .timer) refl (h .out))
 
+  -- and releases nothing
+  pub zero-releases : (c : Crossing) → NoCrossing c → releases s c ≡ false
+  unfolding overlong
+  zero-releases c h = rw (none, h .countdown)
+
   zero-ticks : (c : Crossing) → NoCrossing c → NoCrossing (tick s c)
   unfolding tick phase-ticked timer-ticked
   zero-ticks c h = record {
-    track = λ t l. let z = h .track t l in rw (cleared-at c (calling c) t l, cleared-at c (waiting c) t l, cleared-at c (unsure-flag c) t l, h .countdown) z;
+    track = λ t l. let z = h .track t l in rw (cleared-at s c (calling c) t l, cleared-at s c (waiting c) t l, cleared-at s c (unsure-flag c) t l, zero-releases c h) z;
     boom = h .boom;
     lamp = h .lamp;
     kiosk = h .kiosk;
     operator = h .operator;
-    countdown = rw (h .countdown);
+    countdown = rw (zero-releases c h, h .countdown);
     phase = rw (h .timer) (h .phase);
     timer = rw (h .timer);
     left = rw (h .left);

@@ -1,9 +1,9 @@
 -- What a taken event does to its own crossing, and a tick to each, before the crossing settles.
 use mathlib.Core.Bool.{Bool, cond, not, _&&_, _||_}
 use Prim.Native.Nat.{ℕ, _+_, _-_, pred}
-use lib.Dec.{eqb}
-use Rattle.machine.specs.Common.{tab, bit}
-use Rattle.machine.specs.Plant.{Entry, Crossing, release-ticks, calling, waiting, route-flag, route, occupied-flag, unsure-flag, boom, lamp-flag, is-full, dependent, total}
+use lib.Dec.{eqb, leb}
+use Rattle.machine.specs.Common.{tab, any-below, bit}
+use Rattle.machine.specs.Plant.{Entry, Crossing, release-ticks, overlong-ticks, calling, waiting, route-flag, route, occupied-flag, occupied, unsure-flag, boom, lamp-flag, kiosk, operator, is-full, dependent, four-booms, old-sheet, total}
 use Rattle.machine.specs.Events.{Event, is, is-to, is-at}
 
 -- An event of codes 1 to 9 -------------------------------------------------------------------------------------------------------
@@ -52,7 +52,7 @@ act s c e = record {
   occupied = tab 4 (λ t. cond (is-at 6 t e) (e .value) (occupied-flag c t));
   unsure = tab 4 (unsure-after c e);
   booms = tab 4 (λ b. cond (is-at 8 b e) (e .value) (boom c b));
-  lamps = tab 5 (λ l. cond (is-at 9 l e) (e .value) (lamp-flag c l));
+  lamps = tab 7 (λ l. cond (is-at 9 l e) (e .value) (lamp-flag c l));
   kiosk = cond (is 3 e) (e .value) (c .kiosk);
   operator = cond (is 4 e) (e .value) (c .operator);
   countdown = cond (is 7 e) release-ticks (cond (cancels e) 0 (c .countdown));
@@ -63,13 +63,18 @@ act s c e = record {
 }
 
 -- A tick -------------------------------------------------------------------------------------------------------------------------
--- this tick brings a running countdown to 0: the trains of the crossing are written off, and no track stays unsure (T-01)
-abbrev pub releases : Crossing → Bool
-releases c = eqb (c .countdown) 1
+-- the 1959 sheet's own release (T-09): at least 1,079 ticks out of normal, no hold on and every approach free; a set route does not hinder it
+unfoldable pub overlong : Entry → Crossing → Bool
+overlong s c = old-sheet (s .kind) && leb overlong-ticks (c .out) && not (kiosk c || operator c || any-below 4 (occupied c))
+
+-- a release completes on this tick: that of the 1959 sheet, in the countdown's place (T-09), or a running countdown comes to 0. The trains of
+-- the crossing are written off, and no track stays unsure (T-01)
+abbrev pub releases : Entry → Crossing → Bool
+releases s c = overlong s c || eqb (c .countdown) 1
 
 -- a timer that runs out in phase 1 of kind 4 leads to phase 2
 abbrev pub to-gap : Entry → ℕ → Bool
-to-gap s phase = eqb phase 1 && eqb (s .kind) 4
+to-gap s phase = eqb phase 1 && four-booms (s .kind)
 
 -- timer at 0: phase 1 goes to 2 for kind 4, otherwise to 3; phase 2 goes to 3
 unfoldable pub phase-ticked : Entry → ℕ → ℕ → ℕ
@@ -79,19 +84,20 @@ phase-ticked s phase timer = cond (eqb timer 1) (cond (to-gap s phase) 2 3) phas
 unfoldable pub timer-ticked : Entry → ℕ → ℕ → ℕ
 timer-ticked s phase timer = cond (eqb timer 1) (bit (to-gap s phase) (s .gap)) (pred timer)
 
--- the countdown, then the timer, then the ticks left to motorists (T-06), by 1; a completed release clears the trains and, with T-01, the flags
+-- the countdown, then the timer, then the ticks left to motorists (T-06), by 1; a completed release clears the trains, with T-01 the flags and
+-- with T-09 the countdown
 unfoldable pub tick : Entry → Crossing → Crossing
 tick s c = record {
-  calling = tab 4 (λ t. cond (releases c) 0 (calling c t));
-  waiting = tab 4 (λ t. cond (releases c) 0 (waiting c t));
+  calling = tab 4 (λ t. cond (releases s c) 0 (calling c t));
+  waiting = tab 4 (λ t. cond (releases s c) 0 (waiting c t));
   route = c .route;
   occupied = c .occupied;
-  unsure = tab 4 (λ t. cond (releases c) 0 (unsure-flag c t));
+  unsure = tab 4 (λ t. cond (releases s c) 0 (unsure-flag c t));
   booms = c .booms;
   lamps = c .lamps;
   kiosk = c .kiosk;
   operator = c .operator;
-  countdown = pred (c .countdown);
+  countdown = cond (releases s c) 0 (pred (c .countdown));
   phase = phase-ticked s (c .phase) (c .timer);
   timer = timer-ticked s (c .phase) (c .timer);
   left = pred (c .left);
@@ -101,4 +107,4 @@ tick s c = record {
 -- the trains that an event writes off at crossing i, whose settings are s: a tick all of them where a release completes, a strike-in there
 -- that finds its track full 1 (T-01), every other event none
 unfoldable pub written-at : Entry → ℕ → Crossing → Event → ℕ
-written-at s i c e = cond (is 0 e) (bit (releases c) (total c)) (bit (sweeps c e && eqb (e .crossing) i) 1)
+written-at s i c e = cond (is 0 e) (bit (releases s c) (total c)) (bit (sweeps c e && eqb (e .crossing) i) 1)

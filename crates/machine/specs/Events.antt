@@ -6,7 +6,7 @@ pub use Rattle.machine.specs.declared.Event.{Event}
 use Rattle.machine.specs.Common.{any-below, refuse}
 use Rattle.machine.specs.Numbers.{unknown-code, unknown-crossing, unknown-place, unknown-value, no-train, train-calling, not-clear, not-dependent, out-of-range, unknown-sender, no-right}
 use Rattle.machine.specs.Reports.{lost}
-use Rattle.machine.specs.Plant.{Entry, Crossing, Plant, calling, route, occupied, kiosk, operator, trains, entry, crossing, dependent, boom-count}
+use Rattle.machine.specs.Plant.{Entry, Crossing, Plant, calling, route, occupied, kiosk, operator, trains, entry, crossing, dependent, boom-count, lamp-count}
 use Rattle.machine.specs.Range.{in-range}
 use Rattle.machine.specs.Rights.{known-sender, may-send}
 
@@ -35,9 +35,9 @@ on-off code = eqb code 3 || eqb code 4 || eqb code 5 || eqb code 6 || eqb code 9
 abbrev pub crossing-limit : ℕ → ℕ → ℕ
 crossing-limit n code = cond (eqb code 0) 1 n
 
--- place: a track, a boom or one of five lamps, by the code
+-- place: a track, a boom or a lamp of the kind (T-09), by the code
 unfoldable pub place-limit : Entry → ℕ → ℕ
-place-limit s code = cond (on-track code) (s .tracks) (cond (eqb code 8) (boom-count (s .kind)) (cond (eqb code 9) 5 1))
+place-limit s code = cond (on-track code) (s .tracks) (cond (eqb code 8) (boom-count (s .kind)) (cond (eqb code 9) (lamp-count (s .kind)) 1))
 
 -- value: a boom reports at most lost (T-02); holds, routes, approaches and lamps 0 or 1
 unfoldable pub value-limit : ℕ → ℕ

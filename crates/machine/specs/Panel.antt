@@ -8,29 +8,40 @@ pub use Rattle.machine.specs.declared.Rhythm.{Rhythm}
 use Rattle.machine.specs.declared.Rhythm.the-variants.{Slow, Fast, Steady}
 use Rattle.machine.specs.Common.{tab, concat-below, sum4, bit, refuse, byte, low, high}
 use Rattle.machine.specs.Numbers.{bad-output-length, out-of-range, unknown-sender}
-use Rattle.machine.specs.Plant.{Entry, Crossing, Plant, overdue-ticks, calling, waiting, route, boom, lamp, kiosk, operator, entry, crossing, dependent, lights-only, booms-down, normal, secured}
+use Rattle.machine.specs.Plant.{Entry, Crossing, Plant, overdue-ticks, calling, waiting, route, boom, lamp, kiosk, operator, entry, crossing, dependent, lights-only, four-booms, old-sheet, booms-up, booms-down, normal, secured}
 use Rattle.machine.specs.Range.{in-range}
 use Rattle.machine.specs.Rights.{known-sender, sees}
 
--- there are booms: kinds 2 to 4
+-- there are booms
 abbrev pub has-booms : Entry → Bool
 has-booms s = not (lights-only (s .kind))
 
--- byte 0, road: 1 white in normal position, else 2 red; 0 dark if that lamp is dead
+-- amber, a train signal of the 1959 sheet (T-09)
+abbrev pub amber : ℕ
+amber = 3
+
+-- byte 0, road: 1 white in normal position, dark under the 1959 sheet (T-09), else 2 red; 0 dark if that lamp is dead
 unfoldable pub road : Entry → Crossing → ℕ
-road s c = cond (normal s c) (bit (lamp c 0) 1) (bit (lamp c 1) 2)
+road s c = cond (normal s c) (bit (lamp c 0 && not (old-sheet (s .kind))) 1) (bit (lamp c 1) 2)
 
--- byte 3, boom lamps: 1 out of normal, kinds 2 to 4
+-- byte 3, boom lamps: 1 out of normal, under the 1959 sheet while a boom was not last reported up (T-09), kinds with booms
 unfoldable pub boom-lamps : Entry → Crossing → ℕ
-boom-lamps s c = bit (not (normal s c) && has-booms s) 1
+boom-lamps s c = bit (not (cond (old-sheet (s .kind)) (booms-up (s .kind) (boom c)) (normal s c)) && has-booms s) 1
 
--- byte 6, train signal: 2 passable when secured, else 1 stop; 0 if that lamp is dead
+-- the white of the 1959 sheet (T-09): lamp 3 whole, and with booms secured, with lights only phases 1 and 3 and the road red
+unfoldable pub shows-white : Entry → Crossing → Bool
+shows-white s c = lamp c 3 && cond (lights-only (s .kind)) ((eqb (c .phase) 1 || eqb (c .phase) 3) && eqb (road s c) 2) (secured s c)
+
+-- byte 6, train signal: 2 passable when secured, else 1 stop; 0 if that lamp is dead. Under the 1959 sheet (T-09) 2 white, otherwise with booms
+-- 3 amber on lamp 2, 0 if that is dead
 unfoldable pub signal : Entry → Crossing → ℕ
-signal s c = cond (secured s c) (bit (lamp c 3) 2) (bit (lamp c 2) 1)
+signal s c =
+    cond (old-sheet (s .kind)) (cond (shows-white s c) 2 (bit (lamp c 2 && has-booms s) amber))
+    (cond (secured s c) (bit (lamp c 3) 2) (bit (lamp c 2) 1))
 
--- byte 7, distant: 2 white when byte 6 is 2, else 1 violet
+-- byte 7, distant: 2 white when byte 6 is 2, else 1 violet; under the 1959 sheet it equals byte 6 (T-09)
 unfoldable pub distant : Entry → Crossing → ℕ
-distant s c = cond (eqb (signal s c) 2) 2 1
+distant s c = cond (old-sheet (s .kind)) (signal s c) (cond (eqb (signal s c) 2) 2 1)
 
 -- lit in a beat: slow rhythm, at beat 0; fast, at beats 0 and 2; steady, at every beat (T-05)
 unfoldable pub lit-at : Rhythm → ℕ → Bool
@@ -38,32 +49,33 @@ lit-at Slow beat = eqb beat 0
 lit-at Fast beat = eqb beat 0 || eqb beat 2
 lit-at Steady beat = true
 
--- which rhythm a signal has, by what it shows: slow for road white and for stop and violet in normal position, each of them 1; fast for all
--- else; flasher dead: steady (T-05). `still` is normal position: the road shows white in no other, and boom lamps are off in it
+-- which rhythm a signal has, by what it shows: slow for road white and for stop and violet in normal position, each of them 1; steady for amber
+-- (T-09); fast for all else; flasher dead: steady (T-05). `still` is normal position: the road shows white in no other, and boom lamps are off in it
 unfoldable pub rhythm : Bool → Bool → ℕ → Rhythm
-rhythm flasher still shown = cond flasher (cond (still && eqb shown 1) Slow Fast) Steady
+rhythm flasher still shown = cond (flasher && not (eqb shown amber)) (cond (still && eqb shown 1) Slow Fast) Steady
 
 -- a signal is lit in this beat; a dark one is not
 unfoldable pub is-lit : ℕ → Bool → Bool → ℕ → Bool
 is-lit beat flasher still shown = ltb 0 shown && lit-at (rhythm flasher still shown) beat
 
--- byte 1, lit in this beat: bits 1 road, 2 boom lamps, 4 train signal, 8 distant
+-- byte 1, lit in this beat: bits 1 road, 2 boom lamps, which under the 1959 sheet no flasher moves (T-09), 4 train signal, 8 distant
 unfoldable pub lit : ℕ → Entry → Crossing → ℕ
 lit beat s c =
     let on = is-lit beat (lamp c 4) (normal s c) in
-    bit (on (road s c)) 1 + bit (on (boom-lamps s c)) 2 + bit (on (signal s c)) 4 + bit (on (distant s c)) 8
+    let booms-on = is-lit beat (lamp c 4 && not (old-sheet (s .kind))) (normal s c) in
+    bit (on (road s c)) 1 + bit (booms-on (boom-lamps s c)) 2 + bit (on (signal s c)) 4 + bit (on (distant s c)) 8
 
 -- byte 2, bell: 1 out of normal, unless there are booms and all are reported down
 unfoldable pub bell : Entry → Crossing → ℕ
 bell s c = bit (not (normal s c) && not (has-booms s && booms-down (s .kind) (boom c))) 1
 
--- byte 4, order down, right: phases 2 and 3; 0 for kind 1
+-- byte 4, order down, right: phases 2 and 3; 0 for lights only
 unfoldable pub right-down : Entry → Crossing → ℕ
 right-down s c = bit (has-booms s && (eqb (c .phase) 2 || eqb (c .phase) 3)) 1
 
 -- byte 5, order down, left: phase 3, kind 4
 unfoldable pub left-down : Entry → Crossing → ℕ
-left-down s c = bit (eqb (s .kind) 4 && eqb (c .phase) 3) 1
+left-down s c = bit (four-booms (s .kind) && eqb (c .phase) 3) 1
 
 -- the main signal of track t is released: t is dependent, its route set, secured
 unfoldable pub released : Entry → Crossing → ℕ → Bool

@@ -1,5 +1,5 @@
 -- What the plant holds: how a record is read, the fresh plant, and what document 01 says of a whole crossing.
-use mathlib.Core.Bool.{Bool, false, cond, _&&_, _||_}
+use mathlib.Core.Bool.{Bool, cond, not, _&&_, _||_}
 use Prim.Native.Nat.{ℕ, _+_, _/_, _%_, _^_}
 use lib.Dec.{eqb, ltb, leb}
 use lib.ListN.{getD}
@@ -9,6 +9,7 @@ pub use Rattle.machine.specs.declared.Crossing.{Crossing}
 pub use Rattle.machine.specs.declared.Plant.{Plant}
 use Rattle.machine.specs.Common.{tab, all-below, any-below, sum4, bit}
 use Rattle.machine.specs.Reports.{up, moving, down}
+pub use Rattle.machine.specs.Kinds.{lights-only, half-booms, four-booms, old-sheet, old-booms, boom-count, lamp-count}
 
 -- Constants ----------------------------------------------------------------------------------------------------------------------
 -- the release countdown begins here
@@ -18,6 +19,14 @@ release-ticks = 270
 -- out of normal for more ticks than this is shown
 abbrev pub overdue-ticks : ℕ
 overdue-ticks = 900
+
+-- under the 1959 sheet a tick that finds so many ticks out of normal may release (T-09)
+abbrev pub overlong-ticks : ℕ
+overlong-ticks = 1079
+
+-- ticks out of normal run to here (T-09)
+abbrev pub most-ticks : ℕ
+most-ticks = 1080
 
 -- a track holds at most this many trains
 abbrev pub full : ℕ
@@ -96,17 +105,17 @@ total c = sum4 (trains c)
 abbrev pub no-entry : Entry
 no-entry = record { kind = 0; tracks = 0; mask = 0; pre = 0; gap = 0; pause = 0 }
 
--- Fresh: no trains, holds, routes or occupation, no track unsure (T-01), booms up, lamps whole, phase 0 with no ticks left to motorists (T-06);
--- a record past the last crossing is all zero
-abbrev pub fresh-crossing : Bool → Crossing
-fresh-crossing used = record {
+-- Fresh: no trains, holds, routes or occupation, no track unsure (T-01), booms up, so many lamps whole and the others held as 0 (T-09), phase 0
+-- with no ticks left to motorists (T-06)
+abbrev pub fresh-crossing : ℕ → Crossing
+fresh-crossing lamps = record {
   calling = tab 4 (λ t. 0);
   waiting = tab 4 (λ t. 0);
   route = tab 4 (λ t. 0);
   occupied = tab 4 (λ t. 0);
   unsure = tab 4 (λ t. 0);
   booms = tab 4 (λ b. up);
-  lamps = tab 5 (λ l. bit used 1);
+  lamps = tab 7 (λ l. bit (ltb l lamps) 1);
   kiosk = 0;
   operator = 0;
   countdown = 0;
@@ -118,7 +127,7 @@ fresh-crossing used = record {
 
 -- all zero: a record past the last crossing
 abbrev pub no-crossing : Crossing
-no-crossing = fresh-crossing false
+no-crossing = fresh-crossing 0
 
 -- the settings of crossing i
 abbrev pub entry : Plant → ℕ → Entry
@@ -128,21 +137,17 @@ entry p i = getD (p .site .entries) i no-entry
 abbrev pub crossing : Plant → ℕ → Crossing
 crossing p i = getD (p .crossings) i no-crossing
 
+-- the lamps of crossing i: none past the last crossing
+abbrev pub lamps-at : Site → ℕ → ℕ
+lamps-at s i = bit (ltb i (s .n)) (lamp-count (getD (s .entries) i no-entry .kind))
+
 -- Fresh: beat 0 and each crossing fresh
 unfoldable pub fresh-plant : Site → Plant
-fresh-plant s = record { site = s; beat = 0; crossings = tab 8 (λ i. fresh-crossing (ltb i (s .n))) }
+fresh-plant s = record { site = s; beat = 0; crossings = tab 8 (λ i. fresh-crossing (lamps-at s i)) }
 
 -- Mask: bit t set where track t depends on a route
 unfoldable pub dependent : Entry → ℕ → Bool
 dependent s t = eqb ((s .mask / (2 ^ t)) % 2) 1
-
--- Kind 1: lights only
-abbrev pub lights-only : ℕ → Bool
-lights-only kind = eqb kind 1
-
--- Booms 0 and 1 stand right of the road, none for kind 1; 2 and 3 left, kind 4 alone
-abbrev pub boom-count : ℕ → ℕ
-boom-count kind = cond (lights-only kind) 0 (cond (eqb kind 4) 4 2)
 
 -- What holds of a crossing -------------------------------------------------------------------------------------------------------
 -- the test holds of each boom that a kind has
@@ -165,9 +170,9 @@ booms-up kind boom = each-boom kind (λ b. eqb (boom b) up)
 unfoldable pub booms-down : ℕ → (ℕ → ℕ) → Bool
 booms-down kind boom = each-boom kind (λ b. eqb (boom b) down)
 
--- one boom as the kind demands: kind 2 reported moving or down (T-02), kinds 3 and 4 reported down
+-- one boom as the kind demands: a half boom reported moving or down (T-02), a full one reported down
 abbrev pub boom-closed : ℕ → ℕ → Bool
-boom-closed kind report = cond (eqb kind 2) (eqb report moving || eqb report down) (eqb report down)
+boom-closed kind report = cond (half-booms kind) (eqb report moving || eqb report down) (eqb report down)
 
 -- every boom as the kind demands
 unfoldable pub booms-closed : ℕ → (ℕ → ℕ) → Bool
@@ -177,6 +182,10 @@ booms-closed kind boom = each-boom kind (λ b. boom-closed kind (boom b))
 unfoldable pub normal : Entry → Crossing → Bool
 normal s c = eqb (c .phase) 0 && booms-up (s .kind) (boom c)
 
--- secured: phase 3, road red whole, and the booms as the kind demands
+-- kind 6: the lamps of both booms whole (T-09)
+abbrev pub boom-lamps-whole : ℕ → (ℕ → Bool) → Bool
+boom-lamps-whole kind lamp = not (old-booms kind) || (lamp 5 && lamp 6)
+
+-- secured: phase 3, road red whole, and the booms as the kind demands, their lamps too (T-09)
 unfoldable pub secured : Entry → Crossing → Bool
-secured s c = eqb (c .phase) 3 && lamp c 1 && booms-closed (s .kind) (boom c)
+secured s c = eqb (c .phase) 3 && lamp c 1 && booms-closed (s .kind) (boom c) && boom-lamps-whole (s .kind) (lamp c)

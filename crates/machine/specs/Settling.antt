@@ -1,11 +1,11 @@
 -- Settling: once, by the phase on entry to this step.
 use mathlib.Core.Bool.{Bool, cond, not, _&&_}
-use Prim.Native.Nat.{ℕ, suc, _+_}
-use lib.Dec.{eqb, leb}
+use Prim.Native.Nat.{ℕ, _+_}
+use lib.Dec.{eqb, ltb}
 use Rattle.machine.specs.Common.{bit}
-use Rattle.machine.specs.Plant.{Entry, Crossing, overdue-ticks, boom, lights-only, reason, booms-up}
+use Rattle.machine.specs.Plant.{Entry, Crossing, most-ticks, boom, lights-only, reason, booms-up}
 
--- 0 with a reason and no ticks left to motorists (T-06): phase 1. 1 without: phase 0. 2 or 3 without: phase 4, kind 1 phase 0.
+-- 0 with a reason and no ticks left to motorists (T-06): phase 1. 1 without: phase 0. 2 or 3 without: phase 4, lights only phase 0.
 -- 4 with every boom up: phase 1 if a reason stands and M is 0 (T-06), else 0. Otherwise 4.
 unfoldable pub phase-settled : Entry → Bool → Bool → ℕ → ℕ → ℕ
 phase-settled s stands up left phase =
@@ -18,14 +18,14 @@ phase-settled s stands up left phase =
 unfoldable pub timer-settled : ℕ → ℕ → ℕ → ℕ → ℕ
 timer-settled pre phase next timer = cond (eqb next phase) timer (bit (eqb next 1) pre)
 
--- ticks left to motorists (T-06): as they were where the phase stays, M where raising ends or kind 1 leaves phase 3 for phase 0, none where a
+-- ticks left to motorists (T-06): as they were where the phase stays, M where raising ends or lights only leave phase 3 for phase 0, none where a
 -- warning is given up or begins
 unfoldable pub left-settled : ℕ → ℕ → ℕ → ℕ → ℕ
 left-settled pause phase next left = cond (eqb next phase) left (bit (eqb next 0 && not (eqb phase 1)) pause)
 
--- ticks out of normal: 0 in normal position; otherwise a tick adds 1, up to 901
+-- ticks out of normal: 0 in normal position; otherwise a tick adds 1, up to 1,080 (T-09)
 unfoldable pub out-settled : Bool → ℕ → ℕ → ℕ
-out-settled normal add out = cond normal 0 (cond (leb out overdue-ticks) (out + add) (suc overdue-ticks))
+out-settled normal add out = cond normal 0 (cond (ltb out most-ticks) (out + add) most-ticks)
 
 -- a crossing with phase, timer, ticks left and ticks out of normal as given
 abbrev pub with-phase : Crossing → ℕ → ℕ → ℕ → ℕ → Crossing

@@ -1,13 +1,15 @@
 // The types of the crossing engine (document 01, "What the plant holds") and the fresh plant.
 // What each event does and what each panel byte shows is defined in specs/.
+pub mod kinds;
 pub mod numbers;
 pub mod reports;
 pub mod senders;
 
 ghost use mathlib.Core.Path.{_≡_};
-ghost use Rattle.machine.specs.Plant.{fresh-crossing, fresh-plant};
+ghost use Rattle.machine.specs.Common.{bit};
+ghost use Rattle.machine.specs.Plant.{fresh-crossing, fresh-plant, lamp-count};
 
-// The settings of one crossing: kind 1 to 4, tracks 1 to 4, the mask of dependent tracks; in ticks F, G and M, the time for
+// The settings of one crossing: kind 1 to 6, tracks 1 to 4, the mask of dependent tracks; in ticks F, G and M, the time for
 // motorists between closures (document 02, T-06).
 #[repr(C)]
 pub struct Entry {
@@ -30,7 +32,8 @@ pub struct Site {
 // A flag (route, occupied, unsure, lamps, holds) is a byte, 0 or 1: every other value is out of its range. A track is unsure
 // from a strike-in that found it full to the next completed time release (document 02, T-01).
 // Booms: up, moving, down or position lost (document 02, T-02), the numbers of mod reports.
-// Lamps: road white, road red, train signal red, train signal white, flasher.
+// Lamps: road white, road red, train signal red, train signal white, flasher; those of booms 0 and 1, kind 6 alone (document 02,
+// T-09).
 // Phases: 0 open, 1 warning, 2 right booms ordered down, 3 all ordered down, 4 raising.
 // Left: the ticks left to motorists before a warning may begin (document 02, T-06). Out: the ticks out of normal.
 #[repr(C)]
@@ -41,7 +44,7 @@ pub struct Crossing {
     pub occupied: [u8; 4],
     pub unsure: [u8; 4],
     pub booms: [u8; 4],
-    pub lamps: [u8; 5],
+    pub lamps: [u8; 7],
     pub kiosk: u8,
     pub operator: u8,
     pub countdown: u16,
@@ -137,13 +140,22 @@ impl Crossing {
     // More ticks out of normal than this raise the panel's bit.
     pub const OVERDUE: u16 = 900;
 
+    // Under the 1959 sheet a tick that finds so many may release (document 02, T-09).
+    pub const OVERLONG: u16 = 1079;
+
+    // Ticks out of normal run to here (document 02, T-09).
+    pub const MOST: u16 = 1080;
+
     // A track holds at most this many trains.
     pub const FULL: u8 = 255;
 
-    // A crossing at rest; a record past the last crossing is not used and all zero.
-    pub fn fresh(used: bool) -> Self
-        ensures { λ r. ⌜ r ≡ fresh-crossing used ⌝ }
+    // A crossing at rest, its lamps whole, those of its booms under the 1959 sheet alone (document 02, T-09); a record past the last
+    // crossing is not used and all zero.
+    pub fn fresh(used: bool, kind: u8) -> Self
+        ensures { λ r. ⌜ r ≡ fresh-crossing (bit used (lamp-count kind)) ⌝ }
     {
+        let whole = used as u8;
+        let boom = (used & (kind == kinds::OLD_HALF)) as u8;
         Crossing {
             calling: [0; 4],
             waiting: [0; 4],
@@ -151,7 +163,7 @@ impl Crossing {
             occupied: [0; 4],
             unsure: [0; 4],
             booms: [reports::UP; 4],
-            lamps: [used as u8; 5],
+            lamps: [whole, whole, whole, whole, whole, boom, boom],
             kiosk: 0,
             operator: 0,
             countdown: 0,
@@ -169,15 +181,16 @@ impl Plant {
         ensures { λ r. ⌜ r ≡ fresh-plant site ⌝ }
     {
         let n = site.n;
+        let s = site.entries;
         let crossings = [
-            Crossing::fresh(0 < n),
-            Crossing::fresh(1 < n),
-            Crossing::fresh(2 < n),
-            Crossing::fresh(3 < n),
-            Crossing::fresh(4 < n),
-            Crossing::fresh(5 < n),
-            Crossing::fresh(6 < n),
-            Crossing::fresh(7 < n),
+            Crossing::fresh(0 < n, s[0].kind),
+            Crossing::fresh(1 < n, s[1].kind),
+            Crossing::fresh(2 < n, s[2].kind),
+            Crossing::fresh(3 < n, s[3].kind),
+            Crossing::fresh(4 < n, s[4].kind),
+            Crossing::fresh(5 < n, s[5].kind),
+            Crossing::fresh(6 < n, s[6].kind),
+            Crossing::fresh(7 < n, s[7].kind),
         ];
         Plant {
             site,

@@ -11,27 +11,24 @@ pub fn row(beat: u8, s: Entry, c: Crossing) -> [u8; 16]
     let has_booms = !kind::lights_only(s.kind);
     let normal = position::is_normal(s, c);
     let secured = position::is_secured(s, c);
+    let shown = signals::all(s, c, normal, secured);
+    let lit = signals::lit(beat, s, c, normal, shown);
     let booms = c.booms;
-    let calling = panel_bytes::sum(c.calling);
-    let waiting = panel_bytes::sum(c.waiting);
-    let road = aspect::road(normal, c.lamps[0] == 1, c.lamps[1] == 1);
-    let signal = aspect::signal(secured, c.lamps[3] == 1, c.lamps[2] == 1);
-    let on = rhythm::lit_now(beat, c.lamps[4] == 1, normal);
+    let calls = c.calling;
+    let waits = c.waiting;
+    let route = c.route;
+    let calling = panel_bytes::sum(calls);
+    let waiting = panel_bytes::sum(waits);
     [
-        road,
-        bits::flags(
-            (0 < road) & on,
-            !normal & has_booms & on,
-            (0 < signal) & on,
-            on,
-        ),
+        shown.road,
+        lit,
         bits::bit(!normal & !(has_booms & booms::down(s.kind, booms))),
-        bits::bit(!normal & has_booms),
+        shown.booms,
         bits::bit(has_booms & ((c.phase == 2) | (c.phase == 3))),
-        bits::bit((s.kind == 4) & (c.phase == 3)),
-        signal,
-        aspect::distant(signal),
-        panel_bytes::released(s, c.route, secured),
+        bits::bit(kind::four_booms(s.kind) & (c.phase == 3)),
+        shown.signal,
+        shown.distant,
+        panel_bytes::released(s, route, secured),
         bits::flags(normal, secured, Crossing::OVERDUE < c.out, false),
         c.phase,
         bits::flags(c.kiosk == 1, c.operator == 1, false, false),

@@ -1,7 +1,9 @@
 // Lit or dark in a beat, read from one table: a row for each rhythm and beat (document 02, T-05).
 use machine::Rhythm;
+ghost use mathlib.Core.Bool.{_&&_, _||_};
 ghost use mathlib.Core.Path.{_≡_};
-ghost use Rattle.machine.specs.Panel.{lit-at, rhythm};
+ghost use lib.Dec.{eqb, ltb};
+ghost use Rattle.machine.specs.Panel.{amber, lit-at, rhythm};
 ghost use Rattle.rhythm.specs.Rows.{beat-read, place, row-of};
 
 const LIT: bool = true;
@@ -56,7 +58,8 @@ pub fn row_of(rhythm: Rhythm, beat: u8) -> Row
     ROWS[place(rhythm, beat)]
 }
 
-// The rhythm of a crossing's signals: it is one for all of them (law `one-rhythm`). `still` is normal position.
+// The rhythm of a crossing's signals: it is one for all of them that are not steady by themselves (law `one-rhythm`). `still` is
+// normal position.
 pub fn of(flasher: bool, still: bool) -> Rhythm
     ensures { λ r. ⌜ r ≡ rhythm flasher still 1 ⌝ }
 {
@@ -69,10 +72,17 @@ pub fn of(flasher: bool, still: bool) -> Rhythm
     Rhythm::Steady
 }
 
-// Lit in this beat: each signal of the crossing that is not dark.
+// Lit in this beat: each signal of the crossing that is neither dark nor steady by itself.
 pub fn lit_now(beat: u8, flasher: bool, still: bool) -> bool
     ensures { λ r. ⌜ r ≡ lit-at (rhythm flasher still 1) beat ⌝ }
 {
     let row = row_of(of(flasher, still), beat);
     row.2
+}
+
+// A signal by what it shows: dark is not lit, amber is lit in every beat (document 02, T-09), all else with the rhythm.
+pub fn lit(on: bool, shown: u8) -> bool
+    ensures { λ r. ⌜ r ≡ (ltb 0 shown && (on || eqb shown amber)) ⌝ }
+{
+    (0 < shown) & (on | (shown == 3))
 }

@@ -5,7 +5,7 @@ ghost use mathlib.Core.Path.{_≡_};
 ghost use Prim.Native.Nat.{_^_};
 ghost use lib.Dec.{leb, ltb};
 ghost use Rattle.machine.specs.Common.{refuse};
-ghost use Rattle.machine.specs.Range.{count-in, entry-in, entry-zero, gap-in};
+ghost use Rattle.machine.specs.Range.{count-in, entry-in, entry-zero, gap-in, pre-in};
 
 // Tracks 1 to 4, and no bit of the mask at or above that number.
 fn tracks_in(tracks: u8, mask: u8) -> bool
@@ -20,11 +20,22 @@ fn tracks_in(tracks: u8, mask: u8) -> bool
     }
 }
 
+// F: 1 to 180; 15 for booms under the 1959 sheet (document 02, T-09).
+fn pre_in(kind: u8, f: u16) -> bool
+    ensures { λ r. ⌜ r ≡ pre-in kind f ⌝ }
+{
+    if kind::old_booms(kind) {
+        f == 15
+    } else {
+        (1 <= f) & (f <= 180)
+    }
+}
+
 // G: 1 to 90 for kind 4, otherwise 0.
 fn gap_in(kind: u8, g: u16) -> bool
     ensures { λ r. ⌜ r ≡ gap-in kind g ⌝ }
 {
-    if kind == 4 {
+    if kind::four_booms(kind) {
         (1 <= g) & (g <= 90)
     } else {
         g == 0
@@ -36,9 +47,9 @@ pub fn entry_in(s: Entry) -> bool
     ensures { λ r. ⌜ r ≡ entry-in s ⌝ }
 {
     (1 <= s.kind)
-        & (s.kind <= 4)
+        & (s.kind <= 6)
         & tracks_in(s.tracks, s.mask)
-        & ((1 <= s.pre) & (s.pre <= 180))
+        & pre_in(s.kind, s.pre)
         & gap_in(s.kind, s.gap)
         & (s.pause <= 540)
 }

@@ -3,35 +3,9 @@
 use machine::Crossing;
 use machine::Entry;
 ghost use mathlib.Core.Path.{_≡_};
-ghost use lib.ListN.{getD};
-ghost use lib.Dec.{ltb};
-ghost use Rattle.machine.specs.Common.{any-below, bit};
-ghost use Rattle.machine.specs.Plant.{is-on, reason};
+ghost use Rattle.machine.specs.Common.{bit};
 ghost use Rattle.machine.specs.Settling.{left-settled, out-settled, phase-settled, timer-settled};
 ghost use Rattle.settle.specs.Parts.{entered, next-phase, settled-out};
-
-// Some track is calling.
-pub fn any_calling(calling: [u8; 4]) -> bool
-    ensures { λ r. ⌜ r ≡ any-below 4 (λ t. ltb 0 (getD calling t 0)) ⌝ }
-{
-    (0 < calling[0]) | (0 < calling[1]) | (0 < calling[2]) | (0 < calling[3])
-}
-
-// Some track is unsure (document 02, T-01).
-fn any_unsure(unsure: [u8; 4]) -> bool
-    ensures { λ r. ⌜ r ≡ any-below 4 (λ t. is-on (getD unsure t 0)) ⌝ }
-{
-    (unsure[0] == 1) | (unsure[1] == 1) | (unsure[2] == 1) | (unsure[3] == 1)
-}
-
-// A reason stands: some track is calling or a hold is on, or some track is unsure.
-pub fn stands(c: Crossing) -> bool
-    ensures { λ r. ⌜ r ≡ reason c ⌝ }
-{
-    let calling = c.calling;
-    let unsure = c.unsure;
-    (c.kiosk == 1) | (c.operator == 1) | any_calling(calling) | any_unsure(unsure)
-}
 
 // The phase after settling. While ticks are left to motorists no warning begins; with M above 0 raising ends in phase 0 (document
 // 02, T-06).
@@ -62,7 +36,13 @@ pub fn next_phase(s: Entry, c: Crossing) -> u8
     ensures { λ r. ⌜ r ≡ next-phase s c ⌝ }
 {
     let booms = c.booms;
-    phase_settled(s, stands(c), booms::up(s.kind, booms), c.left, c.phase)
+    phase_settled(
+        s,
+        reason::stands(c),
+        booms::up(s.kind, booms),
+        c.left,
+        c.phase,
+    )
 }
 
 // The timer after settling: F where a warning begins.
@@ -105,13 +85,13 @@ fn out_settled(normal: bool, tick: bool, out: u16) -> u16
     if normal {
         return 0;
     }
-    if out <= Crossing::OVERDUE {
+    if out < Crossing::MOST {
         if tick {
             return out + 1;
         }
         return out;
     }
-    Crossing::OVERDUE + 1
+    Crossing::MOST
 }
 
 // The ticks out of normal of a crossing whose phase has settled.

@@ -1,10 +1,11 @@
 -- A tick of a crossing where nothing runs leaves it to settle as it is.
 use mathlib.Core.Path.{_≡_}
+use mathlib.Core.Bool.{false}
 use Prim.Native.Nat.{ℕ}
 use lib.ListN.{length}
 use Rattle.machine.specs.declared.Entry.{Entry}
 use Rattle.machine.specs.declared.Crossing.{Crossing}
-use Rattle.machine.specs.Effects.{tick, phase-ticked, timer-ticked}
+use Rattle.machine.specs.Effects.{releases, tick, phase-ticked, timer-ticked}
 use Rattle.machine.proofs.Tools.{tab-getD}
 
 -- a crossing of the code has its lists by track at length four
@@ -34,7 +35,7 @@ counted c countdown timer left = record {
 same-counts : (c : Crossing) {countdown timer left : ℕ} → c .countdown ≡ countdown → c .timer ≡ timer → c .left ≡ left → counted c countdown timer left ≡ c
 same-counts c d t m = rw (← d, ← t, ← m)
 
--- where neither the countdown nor the timer runs and no ticks are left to motorists, a tick leaves the crossing to settle as it is
-pub still-ticks : (s : Entry) (c : Crossing) → c .countdown ≡ 0 → c .timer ≡ 0 → c .left ≡ 0 → Tracks c → tick s c ≡ c
+-- where neither the countdown nor the timer runs, no ticks are left to motorists and no release completes, a tick leaves the crossing to settle as it is
+pub still-ticks : (s : Entry) (c : Crossing) → c .countdown ≡ 0 → c .timer ≡ 0 → c .left ≡ 0 → releases s c ≡ false → Tracks c → tick s c ≡ c
 unfolding tick phase-ticked timer-ticked
-still-ticks s c d t m z = simp (d, t, m, tab-getD 4 (c .calling) 0 (z .calling), tab-getD 4 (c .waiting) 0 (z .waiting), tab-getD 4 (c .unsure) 0 (z .unsure)) (same-counts c d t m)
+still-ticks s c d t m r z = rw r (simp (d, t, m, tab-getD 4 (c .calling) 0 (z .calling), tab-getD 4 (c .waiting) 0 (z .waiting), tab-getD 4 (c .unsure) 0 (z .unsure)) (same-counts c d t m))

@@ -9,4 +9,4 @@ use Rattle.tick.specs.declared.Ticked.{Ticked}
 
 -- one crossing after a tick, and the trains written off there
 abbrev pub ticked-crossing : Entry → Crossing → Ticked
-ticked-crossing s c = record { crossing = settle s 1 (tick s c); written = bit (releases c) (total c) }
+ticked-crossing s c = record { crossing = settle s 1 (tick s c); written = bit (releases s c) (total c) }

@@ -63,7 +63,7 @@ set-kept : {A : Type 0} (l : List A) (i : ℕ) (d : A) {v : A} → getD l i d �
 set-kept l i d h = rw (← h) (set-getD l i d)
 
 -- A crossing of the code -----------------------------------------------------------------------------------------------------------
--- its arrays have four and five places
+-- its arrays have four and seven places
 record Sized (c : Crossing) : Type 0 where
   pub calling : length (c .calling) ≡ 4
   pub waiting : length (c .waiting) ≡ 4
@@ -71,7 +71,7 @@ record Sized (c : Crossing) : Type 0 where
   pub occupied : length (c .occupied) ≡ 4
   pub unsure : length (c .unsure) ≡ 4
   pub booms : length (c .booms) ≡ 4
-  pub lamps : length (c .lamps) ≡ 5
+  pub lamps : length (c .lamps) ≡ 7
 
 sized : (c : Crossing) (vs : List Val) → Is (row the-type) c vs → Sized c
 sized c vs p = record {
@@ -129,7 +129,7 @@ module _ (s : Entry) (c : Crossing) (e : Event) where
     stored 4 (c .occupied) 0 at (z .occupied) (is 6 e) (λ t. e .value),
     stored 4 (c .unsure) 0 at (z .unsure) (sweeps c e) (λ t. 1),
     stored 4 (c .booms) 0 at (z .booms) (is 8 e) (λ t. e .value),
-    stored 5 (c .lamps) 0 at (z .lamps) (is 9 e) (λ t. e .value),
+    stored 7 (c .lamps) 0 at (z .lamps) (is 9 e) (λ t. e .value),
   )
 
   -- a passage where no train is calling

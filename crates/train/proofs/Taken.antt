@@ -3,7 +3,6 @@ use mathlib.Core.Path.{_≡_}
 use mathlib.Core.Bool.{false, cond}
 use Prim.Native.Nat.{ℕ, _≤_, _<_}
 use native.Mathlib.Omega.{arith}
-use native.Mathlib.Nat.{le-refl}
 use lib.Dec.{eqb, lit≤}
 use borrow.Author.Tests.{eqb-true}
 use Rattle.machine.specs.declared.Entry.{Entry}
@@ -12,7 +11,7 @@ use Rattle.machine.specs.declared.Event.{Event}
 use Rattle.machine.specs.Plant.{full, trains}
 use Rattle.machine.specs.Events.{is, on-track, place-limit}
 use Rattle.machine.proofs.Tools.{by-test, by-cond}
-use Rattle.machine.proofs.Entries.{EntryIn, at-most-four}
+use Rattle.machine.proofs.Entries.{EntryIn, at-most-four, at-most-seven}
 use Rattle.machine.proofs.Ranges.{CrossingIn}
 use Rattle.machine.proofs.Taken.{Accepted}
 use Rattle.train.specs.Room.{Room}
@@ -21,11 +20,11 @@ use Rattle.train.specs.Room.{Room}
 pub on-four : {c : Crossing} {e : Event} (k : ℕ) → eqb k 9 ≡ false → (e .code ≡ k) × Room c e → e .place < 4
 on-four k q h = rw (h .0, q) at (h .1 .place)
 
--- a crossing has at most four tracks and booms
-limit-fits : (s : Entry) (code : ℕ) → s .tracks ≤ 4 → place-limit s code ≤ cond (eqb code 9) 5 4
+-- a crossing has at most four tracks and booms, and seven lamps
+limit-fits : (s : Entry) (code : ℕ) → s .tracks ≤ 4 → place-limit s code ≤ cond (eqb code 9) 7 4
 unfolding place-limit
 limit-fits s code four = by-test (eqb code 9)
-    (λ q. rw (eqb-true code 9 q) (le-refl 5))
+    (λ q. rw (eqb-true code 9 q) (at-most-seven (s .kind)))
     (λ q. rw q
     (by-cond (λ x. x ≤ 4) (on-track code) (λ _. four) (λ _.
     by-cond (λ x. x ≤ 4) (eqb code 8) (λ _. at-most-four (s .kind)) (λ _. lit≤ tt))))

@@ -15,13 +15,15 @@ fn booms_zero(c: Crossing) -> bool
 
 // Every lamp is last reported dead.
 fn lamps_zero(c: Crossing) -> bool
-    ensures { λ r. ⌜ r ≡ all-below 5 (λ l. eqb (lamp-flag c l) 0) ⌝ }
+    ensures { λ r. ⌜ r ≡ all-below 7 (λ l. eqb (lamp-flag c l) 0) ⌝ }
 {
     (c.lamps[0] == 0)
         & (c.lamps[1] == 0)
         & (c.lamps[2] == 0)
         & (c.lamps[3] == 0)
         & (c.lamps[4] == 0)
+        & (c.lamps[5] == 0)
+        & (c.lamps[6] == 0)
 }
 
 // A record past the last crossing: all zero.

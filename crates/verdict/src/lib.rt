@@ -35,7 +35,7 @@ fn place_limit(s: Entry, code: u8) -> u8
         5 => s.tracks,
         6 => s.tracks,
         8 => kind::boom_count(s.kind),
-        9 => 5,
+        9 => kind::lamp_count(s.kind),
         _ => 1,
     }
 }
@@ -60,7 +60,7 @@ fn held_by_train(c: Crossing, value: u8) -> bool
     ensures { λ r. ⌜ r ≡ (eqb value 0 && any-calling c) ⌝ }
 {
     let calling = c.calling;
-    (value == 0) & settle::any_calling(calling)
+    (value == 0) & reason::any_calling(calling)
 }
 
 // A hold is on, a route is set or an approach is occupied.

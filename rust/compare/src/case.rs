@@ -61,8 +61,8 @@ pub enum Case {
 }
 
 impl Case {
-    /// Case `index` under `seed`. Senders and the time for motorists have random numbers of their
-    /// own.
+    /// Case `index` under `seed`. Senders, the time for motorists and the sheet of 1959 have random
+    /// numbers of their own.
     pub fn make(seed: u64, index: u64) -> Case {
         let rng = &mut Rng::of_case(seed, index);
         let senders = &mut Senders::of_case(seed, index);

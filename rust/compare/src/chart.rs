@@ -1,5 +1,5 @@
 //! The chart rows of document 01 that carry no star, one of them as document 02, T-01, has it, and
-//! a row for document 02, T-06, played on an engine.
+//! a row each for document 02, T-06 and T-09, played on an engine.
 
 use crate::{Command, Engine};
 use engine::{number, sender, Plant};
@@ -10,7 +10,7 @@ const STRIKE_IN: [u8; 4] = [1, 0, 0, 0];
 const PASSAGE: [u8; 4] = [2, 0, 0, 0];
 const RELEASE: [u8; 4] = [7, 0, 0, 0];
 
-/// One crossing of a kind, one track by this mask, F 2, for kind 4 G 1, and this M.
+/// One crossing of a kind, one track by this mask, F 2, for kind 6 15, for kind 4 G 1, and this M.
 fn fresh(engine: &dyn Engine, kind: u8, mask: u8, pause: u16) -> Plant {
     let mut site = engine::Site::ZERO;
     site.n = 1;
@@ -18,11 +18,16 @@ fn fresh(engine: &dyn Engine, kind: u8, mask: u8, pause: u16) -> Plant {
         kind,
         tracks: 1,
         mask,
-        pre: 2,
+        pre: if kind == 6 { 15 } else { 2 },
         gap: u16::from(kind == 4),
         pause,
     };
     engine.read_book(&book_bytes(&site)).1
+}
+
+/// Whether its booms rise before it opens.
+fn has_booms(plant: &Plant) -> bool {
+    plant.site.entries[0].has_booms()
 }
 
 /// A track for the row of document 02, T-01, and what it holds with 255 trains.
@@ -101,7 +106,7 @@ fn swept(engine: &dyn Engine, kind: u8, track: &Track) -> bool {
         && takes(engine, p, TICK, 269, 0)
         && holds(p, calling, waiting, 1, 3);
     let released = takes(engine, p, TICK, 1, 255)
-        && holds(p, 0, 0, 0, if kind == 1 { 0 } else { 4 })
+        && holds(p, 0, 0, 0, if has_booms(p) { 4 } else { 0 })
         && takes(engine, p, TICK, 1, 0)
         && holds(p, 0, 0, 0, 0);
     full && unsure && begun && released
@@ -131,7 +136,8 @@ fn leaves(plant: &Plant, left: u16, phase: u8) -> bool {
 /// to be ordered down. Booms stay up throughout.
 fn motorists(engine: &dyn Engine, kind: u8) -> bool {
     let p = &mut fresh(engine, kind, 0, 3);
-    let close = if kind == 4 { 3 } else { 2 };
+    let entry = p.site.entries[0];
+    let close = u32::from(entry.pre + entry.gap);
     let closed = takes(engine, p, STRIKE_IN, 1, 0)
         && takes(engine, p, TICK, close, 0)
         && leaves(p, 0, 3)
@@ -149,10 +155,25 @@ fn motorists(engine: &dyn Engine, kind: u8) -> bool {
     closed && waits && again
 }
 
+/// After a strike-in, 1,079 ticks leave the train; the next, six minutes after it, writes it off
+/// under the sheet of 1959, and at no other kind.
+fn six_minutes(engine: &dyn Engine, kind: u8) -> bool {
+    let p = &mut fresh(engine, kind, 0, 0);
+    let stands = takes(engine, p, STRIKE_IN, 1, 0)
+        && takes(engine, p, TICK, 1079, 0)
+        && holds(p, 1, 0, 0, 3);
+    let ends = match kind {
+        5 => takes(engine, p, TICK, 1, 1) && holds(p, 0, 0, 0, 0),
+        6 => takes(engine, p, TICK, 1, 1) && holds(p, 0, 0, 0, 4),
+        _ => takes(engine, p, TICK, 2, 0) && holds(p, 1, 0, 0, 3),
+    };
+    stands && ends
+}
+
 /// Every row for every kind; the rows that do not hold, in words.
 pub fn failing(engine: &dyn Engine) -> Vec<String> {
     let mut failing = Vec::new();
-    for kind in 1..=4 {
+    for kind in 1..=6 {
         for track in TRACKS.iter().filter(|track| !swept(engine, kind, track)) {
             let name = track.name;
             failing.push(format!("strike-in 255 and 256, kind {kind}, {name}"));
@@ -162,6 +183,9 @@ pub fn failing(engine: &dyn Engine) -> Vec<String> {
         }
         if !motorists(engine, kind) {
             failing.push(format!("three ticks for motorists, kind {kind}"));
+        }
+        if !six_minutes(engine, kind) {
+            failing.push(format!("1,080 ticks out of normal, kind {kind}"));
         }
     }
     failing

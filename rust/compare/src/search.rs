@@ -12,7 +12,7 @@ use std::time::{Duration, Instant};
 
 /// Events put to the engines while one difference is made small, to be shown or to be counted.
 const SHOWN: usize = 3_000_000;
-const COUNTED: usize = 200_000;
+const COUNTED: usize = 120_000;
 
 /// Which cases, where to begin and when to end.
 #[derive(Clone, Copy)]

@@ -6,7 +6,7 @@ use faults::{Fault, FAULTS};
 use std::process::ExitCode;
 use std::time::Instant;
 
-const CASES: u64 = 40_000;
+const CASES: u64 = 20_000;
 const SESSIONS: u64 = 200;
 
 /// How a fault was found, in words as wide as any.

@@ -48,9 +48,12 @@ fn site_weight(site: &Site) -> u64 {
     u64::from(site.n) * 2000 + site.entries.iter().map(entry).sum::<u64>()
 }
 
-fn crossing_weight(c: &Crossing) -> u64 {
+/// Lamps that are as in a fresh plant weigh nothing.
+fn crossing_weight(entry: &Entry, c: &Crossing) -> u64 {
     let bytes = [c.calling, c.waiting, c.booms, c.route, c.occupied, c.unsure].concat();
-    let lamps = c.lamps.map(|whole| whole.abs_diff(1));
+    let fresh = Crossing::fresh(entry).lamps.into_iter();
+    let lamps = fresh.zip(c.lamps).map(|(fresh, lamp)| lamp.abs_diff(fresh));
+    let lamps: Vec<u8> = lamps.collect();
     let bytes = bytes.iter().chain(&lamps);
     let counts = [c.countdown, c.timer, c.left, c.out];
     let small = [c.phase, c.kiosk, c.operator];
@@ -59,8 +62,9 @@ fn crossing_weight(c: &Crossing) -> u64 {
 }
 
 fn plant_weight(plant: &Plant) -> u64 {
-    let records = plant.crossings.iter().map(crossing_weight).sum::<u64>();
-    site_weight(&plant.site) + u64::from(plant.beat) + records
+    let records = plant.site.entries.iter().zip(&plant.crossings);
+    let records = records.map(|(entry, c)| crossing_weight(entry, c));
+    site_weight(&plant.site) + u64::from(plant.beat) + records.sum::<u64>()
 }
 
 /// A sender that may send the event weighs less than any that may not.

@@ -3,7 +3,8 @@
 //! normal position (document 02, T-01) but while ticks are left to motorists, that no signal lets
 //! trains pass then, and that a crossing closes in time (document 02, T-06): with reasons, trains
 //! and ticks left worked out from the list of events alone, taken from any sender (document 02,
-//! T-04).
+//! T-04); all of it at every kind, with the release and the signals of the sheet of 1959 (document
+//! 02, T-09).
 
 use compare::case::Case;
 use compare::Command;
@@ -20,7 +21,11 @@ struct Account {
     unsure: [bool; 4],
     route: [bool; 4],
     holds: [bool; 2],
+    approaches: [bool; 4],
     countdown: u32,
+    /// Ticks out of normal, and trains written off because there were too many.
+    out: u32,
+    overdue: u32,
     /// Ticks for which a reason has stood unbroken; and with it every boom up.
     stood: u32,
     closing: u32,
@@ -31,7 +36,7 @@ struct Account {
     booms: [u8; 4],
     /// A boom was reported lost.
     lost: bool,
-    red_dead: bool,
+    dead: [bool; 7],
 }
 
 impl Account {
@@ -72,10 +77,19 @@ impl Account {
         }
     }
 
+    /// Six minutes under the sheet of 1959, with nothing in the way.
+    fn is_overdue(&self, entry: &Entry) -> bool {
+        let free = self.holds == [false; 2] && self.approaches == [false; 4];
+        entry.kind > 4 && self.out >= 1079 && free
+    }
+
     fn tick(&mut self, entry: &Entry) {
-        if self.countdown == 1 {
-            let trains = self.calling.iter().chain(&self.waiting);
-            self.written_off += trains.sum::<u32>();
+        let overdue = self.is_overdue(entry);
+        if overdue || self.countdown == 1 {
+            let trains: u32 = self.calling.iter().chain(&self.waiting).sum();
+            self.written_off += trains;
+            self.overdue += trains * u32::from(overdue);
+            self.countdown = 0;
             self.calling = [0; 4];
             self.waiting = [0; 4];
             self.unsure = [false; 4];
@@ -90,6 +104,7 @@ impl Account {
         };
         self.left = self.left.saturating_sub(1);
         self.settle(entry);
+        self.out += 1;
     }
 
     /// Phase, timer and ticks left, with motorists first where raising ends.
@@ -97,7 +112,7 @@ impl Account {
         let (phase, timer, left) = match (self.phase, self.reason()) {
             (0, true) if self.left == 0 => (1, entry.pre, 0),
             (1, false) => (0, 0, 0),
-            (3, false) if entry.kind == 1 => (0, 0, entry.pause),
+            (3, false) if matches!(entry.kind, 1 | 5) => (0, 0, entry.pause),
             (2 | 3, false) => (4, 0, 0),
             (4, true) if self.is_up() && entry.pause == 0 => (1, entry.pre, 0),
             (4, _) if self.is_up() => (0, 0, entry.pause),
@@ -117,9 +132,10 @@ impl Account {
             2 => self.pass(place),
             3 | 4 => self.holds[usize::from(code) - 3] = value == 1,
             5 => self.set_route(place, value == 1),
+            6 => self.approaches[place] = value == 1,
             7 => self.countdown = 270,
             8 => self.report(place, value),
-            9 if place == 1 => self.red_dead = value == 0,
+            9 => self.dead[place] = value == 0,
             _ => {}
         }
         if (3..=6).contains(&code) && value == 1 {
@@ -133,12 +149,13 @@ impl Account {
         self.lost |= value == boom::LOST;
     }
 
+    /// As the kind demands its booms, and kind 6 their lamps.
     fn closed(&self, kind: u8) -> bool {
         match kind {
-            1 => true,
-            2 => self.booms[..2]
+            1 | 5 => true,
+            2 | 6 => self.booms[..2]
                 .iter()
-                .all(|b| [boom::MOVING, boom::DOWN].contains(b)),
+                .all(|b| [boom::MOVING, boom::DOWN].contains(b) && self.dead[5..] == [false; 2]),
             3 => self.booms[..2] == [boom::DOWN; 2],
             _ => self.booms == [boom::DOWN; 4],
         }
@@ -158,6 +175,7 @@ fn play(accounts: &mut [Account; 8], site: &Site, e: [u8; 4]) {
         let reason = account.reason();
         account.stood *= u32::from(reason);
         account.closing *= u32::from(reason && account.is_up());
+        account.out *= u32::from(account.phase != 0 || !account.is_up());
     }
 }
 
@@ -177,7 +195,7 @@ fn motorists(account: &Account, plant: &Plant, i: usize, panel: &[u8], met: &mut
     let due = u32::from(entry.pause + entry.pre + entry.gap);
     let down = panel[10] == 3;
     if account.closing > due {
-        let ordered = [entry.kind > 1, entry.kind == 4].map(u8::from);
+        let ordered = [![1, 5].contains(&entry.kind), entry.kind == 4].map(u8::from);
         assert!(down && panel[4..6] == ordered);
         met.in_time += 1;
     }
@@ -196,7 +214,10 @@ fn hold(account: &Account, plant: &Plant, i: usize, panel: &[u8]) -> bool {
     assert_eq!(account.struck_in, gone + there);
     let passes = panel[6] == 2 || panel[8] != 0;
     if passes {
-        assert!(account.reason() && account.closed(entry.kind) && !account.red_dead);
+        assert!(account.reason() && account.closed(entry.kind) && !account.dead[1]);
+    }
+    // The white of kind 5 asks for no F ticks.
+    if passes && entry.kind != 5 || panel[8] != 0 {
         assert!(account.stood >= u32::from(entry.pre + entry.gap));
     }
     if !account.reason() {
@@ -216,8 +237,12 @@ fn hold(account: &Account, plant: &Plant, i: usize, panel: &[u8]) -> bool {
 /// refused for their sender, which each come again from one who may send them.
 #[derive(Default)]
 struct Met {
-    after_lost: [u32; 5],
+    after_lost: [u32; 7],
     refused: u32,
+    /// Of document 02, T-09: trains that a closure of six minutes wrote off; white at kind 5 before
+    /// F ticks.
+    overdue: u32,
+    early_white: u32,
     /// Of document 02, T-06: how often ticks were left, with a marked crossing in normal position;
     /// how often all was down in time, and not before the last tick of it.
     left: u32,
@@ -252,11 +277,14 @@ fn session(site: &Site, commands: &[Command], met: &mut Met) {
         assert_eq!(draw(&plant, sender::DETECTION, &mut panel), 0);
         for (i, bytes) in panel.chunks_exact(PANEL).enumerate() {
             motorists(&accounts[i], &plant, i, bytes, met);
-            if hold(&accounts[i], &plant, i, bytes) && accounts[i].lost {
-                met.after_lost[usize::from(site.entries[i].kind)] += 1;
+            let (passes, entry) = (hold(&accounts[i], &plant, i, bytes), &site.entries[i]);
+            if passes && accounts[i].lost {
+                met.after_lost[usize::from(entry.kind)] += 1;
             }
+            met.early_white += u32::from(passes && accounts[i].stood < entry.pre.into());
         }
     }
+    met.overdue += accounts.iter().map(|a| a.overdue).sum::<u32>();
     let written_off: u32 = accounts.iter().map(|a| a.written_off).sum();
     assert_eq!(written_off, answered);
 }
@@ -270,7 +298,8 @@ fn the_parts_hold_after_every_event() {
         };
         session(&site, &commands, &mut met);
     }
-    assert!(met.after_lost[2..].iter().all(|count| *count > 0));
+    assert!([2, 3, 4, 6].iter().all(|kind| met.after_lost[*kind] > 0));
+    assert!(met.overdue > 100 && met.early_white > 1000);
     assert!(met.refused > 1000);
     assert!(met.left > 1000 && met.in_time > 1000);
     assert!(met.marked_normal > 0 && met.at_the_last > 0);

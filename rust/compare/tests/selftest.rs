@@ -17,11 +17,12 @@ const SESSIONS: u64 = 400;
 /// Faults in calls of a list of events that no such list from a fresh plant can show: in the lent
 /// frames, in books that are refused, in spoilt plants, and a repeated hold, since a hold stands in
 /// the way of a running countdown.
-const NOT_FROM_FRESH: [&str; 45] = [
+const NOT_FROM_FRESH: [&str; 47] = [
     "book_any_gap",
     "book_frame_first",
     "book_length_first",
     "book_old_length",
+    "book_old_pre_14",
     "book_past_n",
     "book_pause_541",
     "countdown_repeated_hold",
@@ -45,6 +46,7 @@ const NOT_FROM_FRESH: [&str; 45] = [
     "range_flags_past_n",
     "range_flags_signed",
     "range_lacking_boom",
+    "range_lacking_boom_lamp",
     "range_lacking_boom_lost",
     "range_lamps_past_n",
     "range_left",
@@ -247,4 +249,27 @@ fn previews_are_made_small() {
         panic!("another case");
     };
     assert_eq!((plant.site.n, frame), (1, vec![0; 16 + 256]));
+}
+
+/// A plant of kind 6 goes down to kind 5, without its boom lamps, where either shows the fault; the
+/// ticks out of normal to the fewest.
+#[test]
+fn plants_under_the_sheet_of_1959_are_made_small() {
+    let mut plant = Plant::fresh(&three());
+    let entry = &mut plant.site.entries[1];
+    (entry.kind, entry.pre, entry.gap) = (6, 15, 0);
+    let c = &mut plant.crossings[1];
+    (c.lamps, c.phase, c.out) = ([1; 7], 3, 1080);
+    (c.calling[0], c.kiosk, c.countdown) = (7, 1, 9);
+    let command = Command::rightful([0; 4]);
+    let small = smallest(
+        "old_release_with_kiosk_hold",
+        Case::Event { plant, command },
+    );
+    let Case::Event { plant, .. } = small else {
+        panic!("another case");
+    };
+    let (entry, c) = (&plant.site.entries[0], &plant.crossings[0]);
+    assert_eq!((plant.site.n, entry.kind, c.out), (1, 5, 1079));
+    assert_eq!(c.lamps, [1, 1, 1, 1, 1, 0, 0]);
 }

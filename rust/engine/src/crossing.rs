@@ -2,7 +2,9 @@
 
 use super::types::{boom, phase, Crossing, Entry};
 
-const LONGEST_OUT: u16 = 901;
+const LONGEST_OUT: u16 = 1080;
+/// Ticks out of normal that are too many under the sheet of 1959 (document 02, T-09).
+const OVERDUE: u16 = 1079;
 
 /// A hold is on.
 #[inline]
@@ -34,15 +36,21 @@ pub fn booms_down(record: &Crossing, entry: &Entry) -> bool {
     booms.iter().all(|b| *b == boom::DOWN)
 }
 
-/// All ordered down, road red whole, every boom down; of half booms every one moving or down
-/// (document 02, T-02).
+/// The lamps of old booms whole; also true where there are none (document 02, T-09).
+fn boom_lamps_whole(record: &Crossing, entry: &Entry) -> bool {
+    !entry.has_old_booms() || record.lamps[5] != 0 && record.lamps[6] != 0
+}
+
+/// All ordered down, road red and boom lamps whole, every boom down; of half booms every one
+/// moving or down (document 02, T-02).
 pub fn is_secured(record: &Crossing, entry: &Entry) -> bool {
     let half_closed = |b: &u8| matches!(*b, boom::MOVING | boom::DOWN);
-    let closed = match entry.kind {
-        2 => record.booms[..2].iter().all(half_closed),
-        _ => booms_down(record, entry),
+    let closed = match entry.has_half_booms() {
+        true => record.booms[..2].iter().all(half_closed),
+        false => booms_down(record, entry),
     };
-    record.phase == phase::ALL_DOWN && record.lamps[1] != 0 && closed
+    let whole = record.lamps[1] != 0 && boom_lamps_whole(record, entry);
+    record.phase == phase::ALL_DOWN && whole && closed
 }
 
 #[inline]
@@ -58,17 +66,34 @@ fn open(record: &mut Crossing, entry: &Entry) {
     record.left = entry.pause;
 }
 
-/// Lowers a running countdown; at its end clears all trains and gives their number. No track
-/// is unsure any more, which writes nothing off (document 02, T-01).
+/// Under the sheet of 1959: closed for too long, with no hold on and no approach occupied. A route
+/// does not count (document 02, T-09).
 #[inline]
-pub fn count_down(record: &mut Crossing) -> u32 {
+fn is_overdue(record: &Crossing, entry: &Entry) -> bool {
+    entry.is_old() && record.out >= OVERDUE && !is_held(record) && record.occupied == [0; 4]
+}
+
+/// Lowers a running countdown, and ends it where the crossing is overdue; gives the trains
+/// written off.
+#[inline]
+pub fn count_down(record: &mut Crossing, entry: &Entry) -> u32 {
+    if is_overdue(record, entry) {
+        record.countdown = 0;
+        return release(record);
+    }
     if record.countdown == 0 {
         return 0;
     }
     record.countdown -= 1;
-    if record.countdown != 0 {
-        return 0;
+    match record.countdown {
+        0 => release(record),
+        _ => 0,
     }
+}
+
+/// A completed release clears all trains and gives their number. No track is unsure any more,
+/// which writes nothing off (document 02, T-01).
+fn release(record: &mut Crossing) -> u32 {
     let trains = record.calling.iter().chain(&record.waiting);
     let written_off = trains.map(|t| u32::from(*t)).sum();
     record.calling = [0; 4];
@@ -85,7 +110,7 @@ pub fn run_timer(record: &mut Crossing, entry: &Entry) {
     }
     record.timer -= 1;
     if record.timer == 0 {
-        if record.phase == phase::WARNING && entry.kind == 4 {
+        if record.phase == phase::WARNING && entry.has_left_booms() {
             go(record, phase::RIGHT_DOWN, entry.gap);
         } else {
             go(record, phase::ALL_DOWN, 0);
@@ -107,9 +132,9 @@ pub fn settle(record: &mut Crossing, entry: &Entry) {
     match record.phase {
         phase::OPEN if reason && record.left == 0 => go(record, phase::WARNING, entry.pre),
         phase::WARNING if !reason => go(record, phase::OPEN, 0),
-        phase::RIGHT_DOWN | phase::ALL_DOWN if !reason => match entry.kind {
-            1 => open(record, entry),
-            _ => go(record, phase::RAISING, 0),
+        phase::RIGHT_DOWN | phase::ALL_DOWN if !reason => match entry.has_booms() {
+            true => go(record, phase::RAISING, 0),
+            false => open(record, entry),
         },
         phase::RAISING if booms_up(record) => match reason && entry.pause == 0 {
             true => go(record, phase::WARNING, entry.pre),

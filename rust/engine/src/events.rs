@@ -69,7 +69,7 @@ fn tick(plant: &mut Plant) -> u32 {
     let n = usize::from(plant.site.n);
     let mut written_off = 0;
     for (record, entry) in plant.crossings[..n].iter_mut().zip(&plant.site.entries) {
-        written_off += count_down(record);
+        written_off += count_down(record, entry);
         run_timer(record, entry);
         run_pause(record);
         settle(record, entry);
@@ -86,7 +86,7 @@ fn limits(entry: &Entry, code: u8) -> (u8, u8) {
         code::KIOSK_HOLD | code::OPERATOR_HOLD => (1, 2),
         code::ROUTE | code::APPROACH => (entry.tracks, 2),
         code::BOOM_REPORT => (entry.booms(), boom::LOST + 1),
-        code::LAMP_REPORT => (5, 2),
+        code::LAMP_REPORT => (entry.lamps(), 2),
         _ => (1, 1),
     }
 }

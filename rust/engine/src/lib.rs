@@ -10,6 +10,7 @@ pub mod board;
 pub mod book;
 pub mod crossing;
 pub mod events;
+pub mod lights;
 pub mod panel;
 pub mod preview;
 mod program;

@@ -1,24 +1,32 @@
 //! The ranges of the settings and of everything the plant holds.
 
 use super::types::{boom, phase, Crossing, Entry, Plant, Site};
+use std::ops::RangeInclusive;
 
+const KINDS: RangeInclusive<u8> = 1..=6;
 const MAX_PRE: u16 = 180;
+/// 5 seconds before old booms go down (document 02, T-09).
+const OLD_PRE: u16 = 15;
 const MAX_GAP: u16 = 90;
 const MAX_PAUSE: u16 = 540;
 const MAX_COUNTDOWN: u16 = 270;
-const MAX_OUT: u16 = 901;
+const MAX_OUT: u16 = 1080;
 const MAX_TRAINS: u16 = 255;
 
 /// Every setting inside its range.
 fn entry_in_range(entry: &Entry) -> bool {
-    let gap = match entry.kind {
-        4 => (1..=MAX_GAP).contains(&entry.gap),
-        _ => entry.gap == 0,
+    let pre = match entry.has_old_booms() {
+        true => entry.pre == OLD_PRE,
+        false => (1..=MAX_PRE).contains(&entry.pre),
     };
-    (1..=4).contains(&entry.kind)
+    let gap = match entry.has_left_booms() {
+        true => (1..=MAX_GAP).contains(&entry.gap),
+        false => entry.gap == 0,
+    };
+    KINDS.contains(&entry.kind)
         && (1..=4).contains(&entry.tracks)
         && entry.mask >> entry.tracks == 0
-        && (1..=MAX_PRE).contains(&entry.pre)
+        && pre
         && gap
         && entry.pause <= MAX_PAUSE
 }
@@ -51,8 +59,8 @@ fn phase_in_range(record: &Crossing, entry: &Entry) -> bool {
     match record.phase {
         phase::OPEN | phase::ALL_DOWN => record.timer == 0,
         phase::WARNING => (1..=entry.pre).contains(&record.timer),
-        phase::RIGHT_DOWN => entry.kind == 4 && (1..=entry.gap).contains(&record.timer),
-        phase::RAISING => entry.kind != 1 && record.timer == 0,
+        phase::RIGHT_DOWN => entry.has_left_booms() && (1..=entry.gap).contains(&record.timer),
+        phase::RAISING => entry.has_booms() && record.timer == 0,
         _ => false,
     }
 }
@@ -63,6 +71,11 @@ fn left_in_range(record: &Crossing, entry: &Entry) -> bool {
         phase::OPEN => record.left <= entry.pause,
         _ => record.left == 0,
     }
+}
+
+/// The lamps of booms are 0 where they do not report (document 02, T-09).
+fn boom_lamps_in_range(record: &Crossing, entry: &Entry) -> bool {
+    entry.has_old_booms() || record.lamps[5..] == [0; 2]
 }
 
 /// Every flag 0 or 1.
@@ -79,6 +92,7 @@ fn record_in_range(record: &Crossing, entry: &Entry) -> bool {
     record.countdown <= MAX_COUNTDOWN
         && record.out <= MAX_OUT
         && flags_in_range(record)
+        && boom_lamps_in_range(record, entry)
         && phase_in_range(record, entry)
         && left_in_range(record, entry)
         && booms_in_range(record, entry)

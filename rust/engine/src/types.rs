@@ -67,7 +67,7 @@ pub mod phase {
     pub const RIGHT_DOWN: u8 = 2;
     /// All booms ordered down.
     pub const ALL_DOWN: u8 = 3;
-    /// Booms rising, kinds 2 to 4.
+    /// Booms rising, where there are any.
     pub const RAISING: u8 = 4;
 }
 
@@ -84,13 +84,14 @@ pub mod boom {
 #[repr(C)]
 #[derive(Clone, Copy, PartialEq, Debug)]
 pub struct Entry {
-    /// 1 lights only, 2 half booms, 3 two full booms, 4 four full booms.
+    /// 1 lights only, 2 half booms, 3 two full booms, 4 four full booms; under the sheet of 1959
+    /// 5 lights only, 6 half booms (document 02, T-09).
     pub kind: u8,
     /// 1 to 4.
     pub tracks: u8,
     /// Bit t is set where track t depends on a route.
     pub mask: u8,
-    /// F, pre-ringing in ticks.
+    /// F, pre-ringing in ticks, 1 to 180; 15 for kind 6.
     pub pre: u16,
     /// G, right booms to left in ticks; kind 4 only.
     pub gap: u16,
@@ -112,9 +113,46 @@ impl Entry {
     #[inline]
     pub fn booms(&self) -> u8 {
         match self.kind {
-            2 | 3 => 2,
+            2 | 3 | 6 => 2,
             4 => 4,
             _ => 0,
+        }
+    }
+
+    #[inline]
+    pub fn has_booms(&self) -> bool {
+        self.booms() > 0
+    }
+
+    /// Booms left of the road too, which go down after the right ones.
+    #[inline]
+    pub fn has_left_booms(&self) -> bool {
+        self.booms() > 2
+    }
+
+    #[inline]
+    pub fn has_half_booms(&self) -> bool {
+        matches!(self.kind, 2 | 6)
+    }
+
+    /// Under the sheet of 1959, source document 003 (document 02, T-09).
+    #[inline]
+    pub fn is_old(&self) -> bool {
+        matches!(self.kind, 5 | 6)
+    }
+
+    /// Booms under that sheet: their lamps are steady and report, and F is fixed.
+    #[inline]
+    pub fn has_old_booms(&self) -> bool {
+        self.is_old() && self.has_booms()
+    }
+
+    /// How many lamps report.
+    #[inline]
+    pub fn lamps(&self) -> u8 {
+        match self.has_old_booms() {
+            true => 7,
+            false => 5,
         }
     }
 
@@ -156,9 +194,10 @@ pub struct Crossing {
     pub unsure: [u8; 4],
     /// Last boom reports: 0 and 1 right of the road, 2 and 3 left.
     pub booms: [u8; 4],
-    /// Lamp last reported whole, a flag each: road white, road red, train red, train white,
-    /// flasher.
-    pub lamps: [u8; 5],
+    /// Lamp last reported whole, a flag each: road white, road red, train red or amber, train
+    /// white, flasher; where old booms are, those of boom 0 and boom 1, elsewhere 0 (document 02,
+    /// T-09).
+    pub lamps: [u8; 7],
     /// Kiosk hold on, a flag.
     pub kiosk: u8,
     /// Operator hold on, a flag.
@@ -169,7 +208,7 @@ pub struct Crossing {
     pub timer: u16,
     /// Ticks left to motorists, 0 to M in phase 0, otherwise 0 (document 02, T-06).
     pub left: u16,
-    /// Ticks out of normal position, 0 to 901.
+    /// Ticks out of normal position, 0 to 1,080 (document 02, T-09).
     pub out: u16,
 }
 
@@ -181,7 +220,7 @@ impl Crossing {
         occupied: [0; 4],
         unsure: [0; 4],
         booms: [boom::UP; 4],
-        lamps: [0; 5],
+        lamps: [0; 7],
         kiosk: 0,
         operator: 0,
         countdown: 0,
@@ -191,11 +230,12 @@ impl Crossing {
         out: 0,
     };
 
-    /// A crossing of a fresh plant: nothing on, all lamps whole.
-    pub const FRESH: Crossing = Crossing {
-        lamps: [1; 5],
-        ..Crossing::ZERO
-    };
+    /// A crossing of a fresh plant: nothing on, all its lamps whole.
+    pub fn fresh(entry: &Entry) -> Crossing {
+        let mut fresh = Crossing::ZERO;
+        fresh.lamps[..entry.lamps().into()].fill(1);
+        fresh
+    }
 }
 
 /// The settings, the beat and the crossing records; records past `n` are all zero.
@@ -211,8 +251,9 @@ impl Plant {
     /// The fresh plant of a site.
     pub fn fresh(site: &Site) -> Plant {
         let mut crossings = [Crossing::ZERO; 8];
-        for crossing in crossings.iter_mut().take(site.n.into()) {
-            *crossing = Crossing::FRESH;
+        let entries = site.entries.iter().take(site.n.into());
+        for (crossing, entry) in crossings.iter_mut().zip(entries) {
+            *crossing = Crossing::fresh(entry);
         }
         Plant {
             site: *site,

@@ -42,14 +42,12 @@ fn read_gives_the_fresh_plant() {
     let second = paused(entry(4, 4, 0b1010, 180, 90), 540);
     assert_eq!(plant.site.entries[1], second);
     assert_eq!(plant.site.entries[2..], [Entry::ZERO; 6]);
-    assert_eq!(plant.crossings[..2], [Crossing::FRESH; 2]);
-    assert_eq!(plant.crossings[2..], [Crossing::ZERO; 6]);
-    assert_eq!(Crossing::FRESH.lamps, [1; 5]);
-    let dark = Crossing {
-        lamps: [0; 5],
-        ..Crossing::FRESH
+    let lit = Crossing {
+        lamps: [1, 1, 1, 1, 1, 0, 0],
+        ..Crossing::ZERO
     };
-    assert_eq!(dark, Crossing::ZERO);
+    assert_eq!(plant.crossings[..2], [lit; 2]);
+    assert_eq!(plant.crossings[2..], [Crossing::ZERO; 6]);
 }
 
 #[test]
@@ -87,28 +85,28 @@ fn the_old_length_is_torn() {
 
 #[test]
 fn motorist_time_of_every_kind() {
-    for kind in 1..=4 {
+    for kind in 1..=6 {
         let gap = u16::from(kind == 4);
         for pause in 0..=u16::MAX {
-            let bytes = one_with(kind, 1, 0, [2, gap, pause]);
+            let bytes = one_with(kind, 1, 0, [15, gap, pause]);
             let (number, plant) = read_book(&bytes);
             assert_eq!(number, if pause <= 540 { 0 } else { 3 }, "{kind} {pause}");
             if number == 0 {
-                let settings = paused(entry(kind, 1, 0, 2, gap), pause);
+                let settings = paused(entry(kind, 1, 0, 15, gap), pause);
                 assert_eq!(plant, Plant::fresh(&site(&[settings])));
                 assert_eq!(plant.crossings[0].left, 0);
                 assert_eq!(book(&plant.site), bytes);
             }
         }
-        refused(&one_with(kind, 1, 0, [2, gap, 541]), 3);
+        refused(&one_with(kind, 1, 0, [15, gap, 541]), 3);
     }
 }
 
 #[test]
 fn every_setting_range() {
     for value in 0..=u8::MAX {
-        let kind = read_book(&one(value, 2, 0, 9, if value == 4 { 1 } else { 0 })).0;
-        assert_eq!(kind, if (1..=4).contains(&value) { 0 } else { 3 });
+        let kind = read_book(&one(value, 2, 0, 15, if value == 4 { 1 } else { 0 })).0;
+        assert_eq!(kind, if (1..=6).contains(&value) { 0 } else { 3 });
         let tracks = read_book(&one(1, value, 0, 9, 0)).0;
         assert_eq!(tracks, if (1..=4).contains(&value) { 0 } else { 3 });
         for count in 1..=4u8 {
@@ -127,7 +125,7 @@ fn every_setting_range() {
             assert_eq!(gap, if value == 0 { 0 } else { 3 });
         }
     }
-    refused(&one(5, 1, 0, 1, 0), 3);
+    refused(&one(7, 1, 0, 15, 0), 3);
 }
 
 #[test]

@@ -155,8 +155,8 @@ fn out_of_normal_900_and_901() {
         assert_eq!(panel(&plant, 0)[9] & 4, 0);
         ticks(&mut plant, 1);
         assert_eq!(panel(&plant, 0)[9] & 4, 4);
-        ticks(&mut plant, 5);
-        assert_eq!(plant.crossings[0].out, 901);
+        ticks(&mut plant, 300);
+        assert_eq!(plant.crossings[0].out, 1080);
     }
 }
 

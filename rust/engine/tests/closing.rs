@@ -3,7 +3,7 @@
 mod common;
 
 use common::{fresh, pausing, settings, take, TICK};
-use engine::{phase, Plant};
+use engine::{phase, Entry, Plant};
 
 const STRIKE_IN: [u8; 4] = [1, 0, 0, 0];
 
@@ -21,10 +21,10 @@ fn to_close(mut plant: Plant) -> u16 {
 /// beginning of the pause.
 #[test]
 fn closing_in_time_from_a_list() {
-    for (kind, pre) in (1..=4).flat_map(|kind| [1, 2, 180].map(|pre| (kind, pre))) {
+    for (kind, pre) in (1..=6).flat_map(|kind| [1, 2, 180].map(|pre| (kind, pre))) {
         for pause in [0, 1, 3, 540] {
             let mut plant = pausing(kind, pre, pause);
-            let gap = plant.site.entries[0].gap;
+            let Entry { pre, gap, .. } = plant.site.entries[0];
             take(&mut plant, &[STRIKE_IN]);
             assert_eq!(to_close(plant), pause + pre + gap);
             if pause > 0 {
@@ -38,10 +38,10 @@ fn closing_in_time_from_a_list() {
 /// From any plant in range one tick more is enough, and raising with a reason takes it.
 #[test]
 fn closing_in_time_from_any_plant() {
-    for (kind, pause) in (1..=4).flat_map(|kind| [0, 1, 3].map(|pause| (kind, pause))) {
+    for (kind, pause) in (1..=6).flat_map(|kind| [0, 1, 3].map(|pause| (kind, pause))) {
         let entry = settings(kind, 2, pause);
         let mut most = 0;
-        for (phase, timer) in (0..5).flat_map(|phase| (0..3).map(move |timer| (phase, timer))) {
+        for (phase, timer) in (0..5).flat_map(|phase| (0..16).map(move |timer| (phase, timer))) {
             for left in 0..=pause {
                 let mut plant = fresh(&[entry]);
                 let c = &mut plant.crossings[0];
@@ -51,7 +51,7 @@ fn closing_in_time_from_any_plant() {
                 }
             }
         }
-        let slow = kind > 1 || pause == 0;
-        assert_eq!(most, pause + 2 + entry.gap + u16::from(slow));
+        let slow = entry.has_booms() || pause == 0;
+        assert_eq!(most, pause + entry.pre + entry.gap + u16::from(slow));
     }
 }

@@ -118,14 +118,15 @@ fn lights_only_start_it_on_the_tick_of_both_ends() {
 
 #[test]
 fn a_warning_given_up_starts_none() {
-    for kind in 1..=4 {
+    for kind in 1..=6 {
         let mut plant = fresh(&[settings(kind, 3, 5)]);
         for _ in 0..3 {
             take(&mut plant, &[STRIKE_IN, TICK, PASSAGE]);
             assert_eq!((at(&plant, 0), left(&plant)), ((phase::OPEN, 0), 0));
         }
         take(&mut plant, &[STRIKE_IN]);
-        assert_eq!(at(&plant, 0), (phase::WARNING, 3));
+        let pre = plant.site.entries[0].pre;
+        assert_eq!(at(&plant, 0), (phase::WARNING, pre));
     }
 }
 
@@ -174,21 +175,22 @@ fn a_release_within_the_pause() {
 /// As document 01 has it.
 #[test]
 fn without_a_time_nothing_waits() {
-    for kind in 1..=4 {
+    for kind in 1..=6 {
         let mut plant = pausing(kind, 2, 0);
+        let pre = plant.site.entries[0].pre;
         take(&mut plant, &[STRIKE_IN]);
-        assert_eq!(at(&plant, 0), (phase::WARNING, 2));
+        assert_eq!(at(&plant, 0), (phase::WARNING, pre));
         let mut plant = closed(kind, 2, 0);
         take(&mut plant, &[PASSAGE, STRIKE_IN]);
         report_all(&mut plant, UP);
-        assert_eq!((at(&plant, 0), left(&plant)), ((phase::WARNING, 2), 0));
+        assert_eq!((at(&plant, 0), left(&plant)), ((phase::WARNING, pre), 0));
     }
 }
 
 /// A mark set meanwhile leaves the crossing in normal position until no tick is left.
 #[test]
 fn a_marked_crossing_is_normal_meanwhile() {
-    for kind in 1..=4 {
+    for kind in 1..=6 {
         let mut plant = pausing(kind, 2, 2);
         assert_eq!(take(&mut plant, &[STRIKE_IN; 256]), 1);
         assert_eq!(plant.crossings[0].unsure, [1, 0, 0, 0]);
@@ -198,7 +200,7 @@ fn a_marked_crossing_is_normal_meanwhile() {
         assert_eq!(panel(&plant, 0)[12..], [255, 0, 0, 0]);
         take(&mut plant, &[TICK]);
         assert!(!is_normal(&plant));
-        assert_eq!(at(&plant, 0), (phase::WARNING, 2));
+        assert_eq!(plant.crossings[0].phase, phase::WARNING);
     }
 }
 

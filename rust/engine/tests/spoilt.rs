@@ -35,7 +35,7 @@ fn settings_and_beat() {
         spoilt(&plant, |p| p.site.n = n);
     }
     spoilt(&plant, |p| p.site.entries[0].kind = 0);
-    spoilt(&plant, |p| p.site.entries[0].kind = 5);
+    spoilt(&plant, |p| p.site.entries[0].kind = 7);
     spoilt(&plant, |p| p.site.entries[1].tracks = 0);
     spoilt(&plant, |p| p.site.entries[1].tracks = 5);
     spoilt(&plant, |p| p.site.entries[1].tracks = 255);
@@ -92,22 +92,22 @@ fn booms() {
     }
 }
 
-/// The flags in turn.
+/// The flags in turn; kind 6 has them all.
 fn flag(c: &mut Crossing, i: usize) -> &mut u8 {
     match i {
         0..=3 => &mut c.route[i],
         4..=7 => &mut c.occupied[i - 4],
         8..=11 => &mut c.unsure[i - 8],
-        12..=16 => &mut c.lamps[i - 12],
-        17 => &mut c.kiosk,
+        12..=18 => &mut c.lamps[i - 12],
+        19 => &mut c.kiosk,
         _ => &mut c.operator,
     }
 }
 
 #[test]
 fn every_byte_as_every_flag() {
-    let plant = fresh(&[entry(3, 4, 0b1111, 2, 0); 3]);
-    for (i, crossing) in (0..19).flat_map(|i| (0..8).map(move |c| (i, c))) {
+    let plant = fresh(&[entry(6, 4, 0b1111, 15, 0); 3]);
+    for (i, crossing) in (0..21).flat_map(|i| (0..8).map(move |c| (i, c))) {
         for value in 0..=255 {
             let known = value == 0 || value == 1 && crossing < 3;
             match known {
@@ -146,16 +146,16 @@ fn counters() {
     let plant = four_kinds();
     sound(&plant, |p| p.crossings[2].countdown = 270);
     spoilt(&plant, |p| p.crossings[2].countdown = 271);
-    sound(&plant, |p| p.crossings[2].out = 901);
-    spoilt(&plant, |p| p.crossings[2].out = 902);
+    sound(&plant, |p| p.crossings[2].out = 1080);
+    spoilt(&plant, |p| p.crossings[2].out = 1081);
 }
 
 /// Document 02, T-06: 0 to M in phase 0, otherwise 0.
 #[test]
 fn ticks_left_to_motorists() {
     let phases = [(0, 0), (1, 1), (2, 1), (3, 0), (4, 0)];
-    for (kind, pause) in (1..=4).flat_map(|kind| [0, 1, 3, 540].map(|pause| (kind, pause))) {
-        let plant = fresh(&[paused(entry(kind, 1, 0, 2, u16::from(kind == 4)), pause)]);
+    for (kind, pause) in (1..=6).flat_map(|kind| [0, 1, 3, 540].map(|pause| (kind, pause))) {
+        let plant = fresh(&[paused(entry(kind, 1, 0, 15, u16::from(kind == 4)), pause)]);
         for (phase, timer) in phases {
             let mut at = plant;
             (at.crossings[0].phase, at.crossings[0].timer) = (phase, timer);
@@ -177,7 +177,7 @@ fn ticks_left_to_motorists() {
 #[test]
 fn past_n() {
     let plant = four_kinds();
-    let changes: [fn(&mut Crossing); 14] = [
+    let changes: [fn(&mut Crossing); 16] = [
         |c| c.calling[0] = 1,
         |c| c.waiting[0] = 1,
         |c| c.route[0] = 1,
@@ -185,6 +185,8 @@ fn past_n() {
         |c| c.unsure[3] = 1,
         |c| c.booms[0] = 1,
         |c| c.lamps[4] = 1,
+        |c| c.lamps[5] = 1,
+        |c| c.lamps[6] = 1,
         |c| c.kiosk = 1,
         |c| c.operator = 1,
         |c| c.countdown = 1,

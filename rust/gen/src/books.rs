@@ -1,9 +1,10 @@
 //! Settings, site books, damaged books, and frames to be lent.
 
+use crate::old::give_old_sheets;
 use crate::rng::Rng;
 use engine::{book_len, Entry, Site};
 
-/// Settings of one crossing, M 0; `quick` keeps F and G short.
+/// Settings of one crossing of kinds 1 to 4, M 0; `quick` keeps F and G short.
 pub fn entry(rng: &mut Rng, quick: bool) -> Entry {
     let kind = rng.within(1..=4) as u8;
     let tracks = rng.within(1..=4) as u8;
@@ -35,7 +36,7 @@ pub(crate) fn give_pauses(mut rng: Rng, entries: &mut [Entry]) {
         entry.pause = match rng.below(8) {
             0 | 1 => 0,
             // Without booms only a long one lets a release end with a warning.
-            2 if entry.kind == 1 => rng.within(264..=540) as u16,
+            2 if !entry.has_booms() => rng.within(264..=540) as u16,
             2..=5 => rng.within(1..=6) as u16,
             6 => rng.within(0..=540) as u16,
             _ => rng.pick(&[255, 256, 257, 512, 539, 540]),
@@ -51,8 +52,14 @@ fn site_with(rng: &mut Rng, quick: bool) -> Site {
     for i in 0..usize::from(site.n) {
         site.entries[i] = entry(rng, quick);
     }
-    give_pauses(rng.aside(), &mut site.entries[..site.n.into()]);
+    give_aside(rng, &mut site.entries[..site.n.into()]);
     site
+}
+
+/// Gives M and the sheet of 1959, by numbers aside.
+pub(crate) fn give_aside(rng: &Rng, entries: &mut [Entry]) {
+    give_pauses(rng.aside(), entries);
+    give_old_sheets(rng.aside().aside(), entries);
 }
 
 /// Settings in range, all sizes.
@@ -88,6 +95,25 @@ fn book_with(site: &Site, times: usize) -> Vec<u8> {
     bytes
 }
 
+/// The entries of a book of the right length, in range or not.
+pub(crate) fn book_entries(book: &[u8]) -> Vec<Entry> {
+    let n = match book {
+        [n @ 1..=8, ..] if book.len() == book_len(*n) => usize::from(*n),
+        _ => return vec![],
+    };
+    let (shapes, times) = book[1..].split_at(3 * n);
+    let pairs = shapes.chunks_exact(3).zip(times.chunks_exact(6));
+    let entry = |(shape, time): (&[u8], &[u8])| Entry {
+        kind: shape[0],
+        tracks: shape[1],
+        mask: shape[2],
+        pre: u16::from_le_bytes([time[0], time[1]]),
+        gap: u16::from_le_bytes([time[2], time[3]]),
+        pause: u16::from_le_bytes([time[4], time[5]]),
+    };
+    pairs.map(entry).collect()
+}
+
 /// A good book.
 pub fn book(rng: &mut Rng) -> Vec<u8> {
     book_bytes(&site(rng))
@@ -104,7 +130,7 @@ pub fn all_lengths() -> Vec<Vec<u8>> {
         let mut site = Site::ZERO;
         site.n = u8::min(count, 8);
         site.entries[..site.n.into()].fill_with(|| entry(rng, false));
-        give_pauses(rng.aside(), &mut site.entries[..site.n.into()]);
+        give_aside(rng, &mut site.entries[..site.n.into()]);
         for len in 0..=LONGEST as usize {
             let mut bytes = book_bytes(&site);
             bytes[0] = count;
@@ -132,10 +158,12 @@ pub enum BookDamage {
     Junk,
     Pause,
     OldLength,
+    /// F of half booms under the sheet of 1959 is 15 (document 02, T-09).
+    OldPre,
 }
 
 impl BookDamage {
-    pub const ALL: [BookDamage; 14] = [
+    pub const ALL: [BookDamage; 15] = [
         BookDamage::Empty,
         BookDamage::Count,
         BookDamage::Short,
@@ -150,12 +178,13 @@ impl BookDamage {
         BookDamage::Junk,
         BookDamage::Pause,
         BookDamage::OldLength,
+        BookDamage::OldPre,
     ];
 
-    /// Any of them, the two of document 02, T-06, by numbers aside.
+    /// Any of them, those of document 02, T-06 and T-09, by numbers aside.
     pub fn any(rng: &mut Rng) -> BookDamage {
         let (first, later) = BookDamage::ALL.split_at(BookDamage::Pause as usize);
-        rng.pick_or(first, later)
+        rng.pick_or_latest(first, &later[..2], &later[2..])
     }
 }
 
@@ -187,7 +216,7 @@ pub fn damaged_book(rng: &mut Rng, damage: BookDamage) -> Vec<u8> {
 
 fn damage_entry(rng: &mut Rng, entry: &mut Entry, damage: BookDamage) {
     match damage {
-        BookDamage::Kind => entry.kind = rng.pick(&[0, 5, 6, 255]),
+        BookDamage::Kind => entry.kind = rng.pick(&[0, 7, 8, 255]),
         BookDamage::Tracks => entry.tracks = rng.pick(&[0, 5, 8, 255]),
         BookDamage::Mask => entry.mask |= 1 << rng.within(entry.tracks.into()..=7),
         BookDamage::Pre => entry.pre = rng.pick(&[0, 181, 256, 257, 65535]),
@@ -196,10 +225,15 @@ fn damage_entry(rng: &mut Rng, entry: &mut Entry, damage: BookDamage) {
             entry.gap = rng.pick(&[0, 91, 256, 257, 65535]);
         }
         BookDamage::GapWithoutBooms => {
-            entry.kind = rng.within(1..=3) as u8;
+            let kind = rng.within(1..=3) as u8;
+            entry.kind = if entry.is_old() { entry.kind } else { kind };
             entry.gap = rng.pick(&[1, 90, 256, 65535]);
         }
         BookDamage::Pause => entry.pause = rng.pick(&[541, 542, 768, 796, 32768, 65535]),
+        BookDamage::OldPre => {
+            (entry.kind, entry.gap) = (6, 0);
+            entry.pre = rng.pick(&[14, 14, 16, 16, 1, 5, 180, 271]);
+        }
         _ => {}
     }
 }

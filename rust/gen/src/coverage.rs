@@ -6,6 +6,7 @@ use crate::boards::Board;
 use crate::booms::BoomBytes;
 use crate::flags::FlagBytes;
 use crate::lost_met::LostCounts;
+use crate::old_met::OldCounts;
 use crate::paused::PauseCounts;
 use crate::previewed::PreviewCounts;
 use crate::senders::{sees_all, Command};
@@ -28,6 +29,9 @@ pub enum Call {
     Board,
 }
 
+/// Room for every kind, counted from 1.
+pub(crate) const KINDS: usize = 7;
+
 /// Room for every number of an answer, and some more.
 pub(crate) const NUMBERS: usize = 32;
 
@@ -47,10 +51,10 @@ pub(crate) fn own_answer(plant: &Plant, command: Command) -> (u8, u32) {
 pub struct Coverage {
     pub(crate) calls: [[u64; NUMBERS]; 8],
     pub(crate) codes: [[u64; NUMBERS]; 11],
-    pub(crate) phases: [[u64; 5]; 5],
+    pub(crate) phases: [[u64; 5]; KINDS],
     pub(crate) moves: [[u64; 5]; 5],
     pub(crate) bytes: [ByteCounts; PANEL],
-    /// By rhythm and beat: the signals shown, then the signals lit.
+    /// By rhythm and beat, at kinds 1 to 4: the signals shown, then the signals lit.
     pub(crate) signals: [[ByteCounts; 4]; 3],
     pub(crate) written_off: [u64; 3],
     pub(crate) panels: u64,
@@ -59,6 +63,7 @@ pub struct Coverage {
     pub(crate) unsure: UnsureCounts,
     pub(crate) lost: LostCounts,
     pub(crate) pauses: PauseCounts,
+    pub(crate) old: OldCounts,
     pub(crate) previews: PreviewCounts,
     pub(crate) senders: SenderCounts,
     pub(crate) agrees: AgreeCounts,
@@ -111,6 +116,12 @@ fn rhythm(record: &Crossing) -> usize {
     }
 }
 
+/// A bit for each signal that is not dark.
+fn shown(bytes: &[u8]) -> u8 {
+    let shown = [bytes[0], bytes[3], bytes[6], bytes[7]].map(|aspect| aspect != 0);
+    (0..4).map(|s| u8::from(shown[s]) << s).sum()
+}
+
 impl Coverage {
     pub fn new() -> Coverage {
         Coverage::default()
@@ -125,12 +136,14 @@ impl Coverage {
     pub fn read(&mut self, book: &[u8], number: u8) {
         self.call(Call::ReadBook, number);
         self.pauses.read(book, number);
+        self.old.read(book, number);
     }
 
     /// Settings written as a book with this answer.
     pub fn write(&mut self, site: &Site, number: u8) {
         self.call(Call::WriteBook, number);
         self.pauses.write(site, number);
+        self.old.write(site, number);
     }
 
     /// A call was handed this plant.
@@ -138,6 +151,7 @@ impl Coverage {
         self.flags[call as usize].mark(plant);
         self.booms[call as usize].mark(plant);
         self.pauses.handed(call as usize, plant);
+        self.old.handed(call as usize, plant);
     }
 
     /// How many events were put to the engine one by one.
@@ -155,6 +169,9 @@ impl Coverage {
         if (e[0], number) == (code::BOOM_REPORT, number::UNKNOWN_VALUE) {
             self.lost
                 .refused(&after.site.entries[usize::from(e[1])], e[3]);
+        }
+        if e[0] == code::LAMP_REPORT {
+            self.old.report(before, e, number);
         }
         if number != number::TAKEN {
             return self.pauses.refused(before, e[1], number);
@@ -174,6 +191,9 @@ impl Coverage {
             self.unsure.event(entry, e, from, to);
             self.lost.event(entry, e, from, to);
             self.pauses.event(entry, e, from, to);
+            if e[0] == code::TICK {
+                self.old.tick(entry, from, to);
+            }
         }
     }
 
@@ -194,12 +214,14 @@ impl Coverage {
             for (counts, byte) in self.bytes.iter_mut().zip(bytes) {
                 counts.count(*byte);
             }
-            let shown = [bytes[0], bytes[3], bytes[6], bytes[7]].map(|aspect| aspect != 0);
-            let shown = (0..4).map(|s| u8::from(shown[s]) << s).sum::<u8>();
-            let row = &mut self.signals[rhythm(record)][usize::from(plant.beat)];
-            row.count(shown << 4 | bytes[1] & 15);
-            self.lost.panel(entry, record, bytes[6] == 1, bytes[2] == 1);
+            if !entry.is_old() {
+                let row = &mut self.signals[rhythm(record)][usize::from(plant.beat)];
+                row.count(shown(bytes) << 4 | bytes[1] & 15);
+            }
+            let stop = matches!(bytes[6], 1 | 3);
+            self.lost.panel(entry, record, stop, bytes[2] == 1);
             self.pauses.panel(entry, record, bytes[9] & 1 == 1);
+            self.old.panel(entry, record, plant.beat, bytes);
         }
     }
 
@@ -251,6 +273,7 @@ impl Coverage {
         self.unsure.add(&other.unsure);
         self.lost.add(&other.lost);
         self.pauses.add(&other.pauses);
+        self.old.add(&other.old);
         self.previews.add(&other.previews);
         self.senders.add(&other.senders);
         self.agrees.add(&other.agrees);

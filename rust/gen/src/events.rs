@@ -2,9 +2,9 @@
 
 use crate::plants::report;
 use crate::rng::Rng;
-use engine::{code, Plant};
+use engine::{code, Entry, Plant};
 
-/// An event of the table; it may still be refused by the state of the crossing.
+/// An event of the table, but for a lamp; it may still be refused by the state of the crossing.
 pub fn event(rng: &mut Rng, plant: &Plant) -> [u8; 4] {
     let n = u32::from(plant.site.n.clamp(1, 8));
     let crossing = rng.below(n) as u8;
@@ -26,8 +26,24 @@ pub(crate) fn event_at(rng: &mut Rng, plant: &Plant, crossing: u8) -> [u8; 4] {
             let boom = rng.below(entry.booms().into()) as u8;
             [code, crossing, boom, report(rng)]
         }
-        code::LAMP_REPORT => [code, crossing, rng.below(5) as u8, on],
+        code::LAMP_REPORT => [code, crossing, lamp(rng, plant, crossing), on],
         _ => [code::TICK, 0, 0, 0],
+    }
+}
+
+/// A lamp of the crossing. Where some crossing is under the sheet of 1959, by numbers aside also
+/// that of a boom, now and then of a crossing without it (document 02, T-09).
+pub(crate) fn lamp(rng: &mut Rng, plant: &Plant, crossing: u8) -> u8 {
+    let mut aside = rng.aside();
+    let lamp = rng.below(5) as u8;
+    let entries = &plant.site.entries;
+    let often = match entries[usize::from(crossing)].has_old_booms() {
+        true => 3,
+        false => 12,
+    };
+    match entries.iter().any(Entry::is_old) && aside.once_in(often) {
+        true => aside.within(5..=6) as u8,
+        false => lamp,
     }
 }
 

@@ -5,9 +5,9 @@ use crate::plants::crossing;
 use crate::rng::Rng;
 use engine::{Crossing, Entry, Plant, Site};
 
-/// Flags of one crossing: four routes, four approaches, four unsure tracks, five lamps, kiosk
+/// Flags of one crossing: four routes, four approaches, four unsure tracks, seven lamps, kiosk
 /// and operator hold.
-pub const FLAGS: usize = 19;
+pub const FLAGS: usize = 21;
 
 /// The flags of a record in turn.
 pub fn flags(c: &Crossing) -> impl Iterator<Item = &u8> {
@@ -26,18 +26,18 @@ fn set_flag(c: &mut Crossing, flag: usize, value: u8) {
     }
 }
 
-/// A plant of `n` crossings with four dependent tracks each, so that every flag may be 1, and of
-/// every kind in turn.
-pub(crate) fn base(n: u8, turn: u8) -> Plant {
+/// A plant of `n` crossings of these kinds with four dependent tracks each, so that every flag
+/// but those of boom lamps may be 1.
+pub(crate) fn base(n: u8, kind: impl Fn(u8) -> u8) -> Plant {
     let rng = &mut Rng::new(n.into());
     let mut plant = Plant::fresh(&Site { n, ..Site::ZERO });
     for i in 0..n {
-        let kind = 1 + (i + turn) % 4;
+        let kind = kind(i);
         let entry = Entry {
             kind,
             tracks: 4,
             mask: 15,
-            pre: 5,
+            pre: if kind == 6 { 15 } else { 5 },
             gap: if kind == 4 { 3 } else { 0 },
             pause: 0,
         };
@@ -47,10 +47,11 @@ pub(crate) fn base(n: u8, turn: u8) -> Plant {
     plant
 }
 
-/// Every value of every flag of every crossing, with all eight crossings used and with one.
+/// Every value of every flag of every crossing, with all eight crossings used, of every kind in
+/// turn, and with one.
 pub fn every_flag() -> impl Iterator<Item = Plant> {
     [8, 1].into_iter().flat_map(|n| {
-        let base = base(n, 0);
+        let base = base(n, |i| 1 + i % 6);
         let places = (0..8).flat_map(|i| (0..FLAGS).map(move |flag| (i, flag)));
         let bytes = places.flat_map(|place| (0..=255).map(move |value| (place, value)));
         bytes.map(move |((i, flag), value)| {

@@ -2,12 +2,13 @@
 
 mod agreements;
 mod boards;
+mod old;
 mod pauses;
 mod previews;
 mod senders;
 
 use crate::booms::BoomBytes;
-use crate::coverage::{Call, Coverage};
+use crate::coverage::{Call, Coverage, KINDS};
 use crate::flags::FlagBytes;
 use crate::lost_met::LostMet;
 use crate::unsure::Met;
@@ -59,7 +60,9 @@ const MOVES: [(u8, u8); 13] = [
 const WITH_PLANT: [Call; 4] = [Call::Event, Call::Draw, Call::Run, Call::Preview];
 /// The crossings that have their bytes counted apart: of flags, and of boom reports.
 const USES: [&str; 2] = ["unused", "used"];
-const KINDS: [&str; 5] = ["unused", "kind 1", "kind 2", "kind 3", "kind 4"];
+const BY_KIND: [&str; KINDS] = [
+    "unused", "kind 1", "kind 2", "kind 3", "kind 4", "kind 5", "kind 6",
+];
 
 /// The refusals an event of this code can meet, beside 6, 7, 8 and 17; 10 stands for the rest.
 fn own_refusals(code: usize) -> &'static [u8] {
@@ -83,9 +86,13 @@ fn code_numbers(code: usize) -> Vec<u8> {
     numbers
 }
 
+fn has_booms(kind: usize) -> bool {
+    !matches!(kind, 1 | 5)
+}
+
 fn kind_phases(kind: usize) -> &'static [usize] {
     match kind {
-        1 => &[0, 1, 3],
+        1 | 5 => &[0, 1, 3],
         4 => &[0, 1, 2, 3, 4],
         _ => &[0, 1, 3, 4],
     }
@@ -146,6 +153,7 @@ impl Coverage {
         goals.extend(self.unsure_goals());
         goals.extend(self.lost_goals());
         goals.extend(self.pause_goals());
+        goals.extend(self.old_goals());
         goals.extend(self.preview_goals());
         goals.extend(self.sender_goals());
         goals.extend(self.agree_goals());
@@ -179,10 +187,10 @@ impl Coverage {
     fn phase_goals(&self) -> Vec<Goal> {
         let mut goals = Vec::new();
         let mut goal = |group, name, count| goals.push(Goal::once(group, name, count));
-        for kind in 1..=4 {
+        for kind in 1..KINDS {
             goal("kind", format!("{kind}"), self.phases[kind].iter().sum());
         }
-        for kind in 1..=4 {
+        for kind in 1..KINDS {
             for p in kind_phases(kind) {
                 goal("kind:phase", format!("{kind}:{p}"), self.phases[kind][*p]);
             }
@@ -201,19 +209,15 @@ impl Coverage {
     fn unsure_goals(&self) -> Vec<Goal> {
         let mut goals = Vec::new();
         let mut goal = |group, name, count| goals.push(Goal::once(group, name, count));
-        for kind in 1..=4 {
+        for kind in 1..KINDS {
             for p in kind_phases(kind) {
                 let count = self.unsure.phase(kind, *p);
                 goal("swept, kind:phase", format!("{kind}:{p}"), count);
             }
         }
         for (met, group, name) in Met::ALL {
-            let first = match met {
-                // Kind 1 has no boom.
-                Met::BoomReport => 2,
-                _ => 1,
-            };
-            for kind in first..=4 {
+            let of_booms = matches!(met, Met::BoomReport);
+            for kind in (1..KINDS).filter(|kind| !of_booms || has_booms(*kind)) {
                 goal(group, format!("{kind}:{name}"), self.unsure.met(met, kind));
             }
         }
@@ -227,7 +231,7 @@ impl Coverage {
         let mut goal = |group, kind: usize, name: &str, count| {
             goals.push(Goal::once(group, format!("{kind}:{name}"), count));
         };
-        for (kind, booms) in [(2, 2), (3, 2), (4, 4)] {
+        for (kind, booms) in [(2, 2), (3, 2), (4, 4), (6, 2)] {
             for p in kind_phases(kind) {
                 let name = &p.to_string();
                 goal("lost, kind:phase", kind, name, lost.phase(kind, *p));
@@ -286,7 +290,7 @@ impl Coverage {
         });
         let booms = WITH_PLANT.map(|call| {
             let counts = self.booms[call as usize].counts();
-            handed(call, "boom bytes", &KINDS, &counts, &BoomBytes::ALL)
+            handed(call, "boom bytes", &BY_KIND, &counts, &BoomBytes::ALL)
         });
         flags.into_iter().chain(booms).flatten().collect()
     }

@@ -37,7 +37,7 @@ pub fn lost_reports() -> Vec<(Plant, [u8; 4])> {
 
 fn combinations() -> Vec<Plant> {
     let mut plants = phases();
-    plants.retain(|plant| plant.site.entries[0].booms() > 0 && plant.site.entries[0].depends(0));
+    plants.retain(|plant| plant.site.entries[0].has_booms() && plant.site.entries[0].depends(0));
     vary(plants, |plant| {
         let booms = plant.site.entries[0].booms();
         let all = 0..4u16.pow(booms.into());

@@ -1,6 +1,6 @@
 //! Counters of what was met at crossings with a boom's position lost (document 02, T-02).
 
-use crate::coverage::sums;
+use crate::coverage::{sums, KINDS};
 use engine::crossing::{booms_down, has_reason, is_normal, is_secured};
 use engine::{boom, code, phase, Crossing, Entry};
 
@@ -50,13 +50,13 @@ impl LostMet {
 /// How often, by kind.
 #[derive(Clone, Default)]
 pub(crate) struct LostCounts {
-    met: [[u64; 5]; LostMet::ALL.len()],
+    met: [[u64; KINDS]; LostMet::ALL.len()],
     /// A boom lost after an event, by phase.
-    phases: [[u64; 5]; 5],
+    phases: [[u64; 5]; KINDS],
     /// Stop shown because of this boom alone.
-    stops: [[u64; 4]; 5],
+    stops: [[u64; 4]; KINDS],
     /// The bell sounded because of one boom alone, by phase.
-    bells: [[u64; 5]; 5],
+    bells: [[u64; 5]; KINDS],
 }
 
 impl LostCounts {

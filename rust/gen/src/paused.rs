@@ -1,6 +1,7 @@
 //! Counters of what was met of the time for motorists (document 02, T-06).
 
-use crate::coverage::sums;
+use crate::books::book_entries;
+use crate::coverage::{sums, KINDS};
 use engine::crossing::{booms_up, has_reason, is_held};
 use engine::{book_len, code, number, phase, Crossing, Entry, Plant, Site};
 
@@ -35,25 +36,30 @@ pub(crate) enum PauseMet {
 
 impl PauseMet {
     /// Each with its name in the table and its kinds.
-    pub(crate) const ALL: [(PauseMet, &'static str, [usize; 2]); 16] = [
-        (PauseMet::Raised, "begun", [2, 4]),
-        (PauseMet::RaisedReason, "begun, reason", [2, 4]),
-        (PauseMet::Lights, "begun", [1, 1]),
-        (PauseMet::BothEnds, "begun, both ends", [1, 1]),
-        (PauseMet::LongOut, "begun, 901 out", [1, 4]),
-        (PauseMet::GivenUp, "given up", [1, 4]),
-        (PauseMet::ClosesAgain, "M 0", [2, 4]),
-        (PauseMet::Warning, "warning", [1, 4]),
-        (PauseMet::Quiet, "no warning", [1, 4]),
-        (PauseMet::LateWarning, "late warning", [1, 4]),
-        (PauseMet::Released, "released", [1, 4]),
-        (PauseMet::ReleasedLast, "released last", [1, 4]),
-        (PauseMet::BoomAway, "boom away", [2, 4]),
-        (PauseMet::Unsure, "normal unsure", [1, 4]),
-        (PauseMet::Calling, "normal calling", [1, 4]),
-        (PauseMet::Held, "normal held", [1, 4]),
+    pub(crate) const ALL: [(PauseMet, &'static str, &'static [usize]); 16] = [
+        (PauseMet::Raised, "begun", BOOMS),
+        (PauseMet::RaisedReason, "begun, reason", BOOMS),
+        (PauseMet::Lights, "begun", LIGHTS),
+        (PauseMet::BothEnds, "begun, both ends", LIGHTS),
+        (PauseMet::LongOut, "begun, 901 out", ALL),
+        (PauseMet::GivenUp, "given up", ALL),
+        (PauseMet::ClosesAgain, "M 0", BOOMS),
+        (PauseMet::Warning, "warning", ALL),
+        (PauseMet::Quiet, "no warning", ALL),
+        (PauseMet::LateWarning, "late warning", ALL),
+        (PauseMet::Released, "released", ALL),
+        (PauseMet::ReleasedLast, "released last", ALL),
+        (PauseMet::BoomAway, "boom away", BOOMS),
+        (PauseMet::Unsure, "normal unsure", ALL),
+        (PauseMet::Calling, "normal calling", ALL),
+        (PauseMet::Held, "normal held", ALL),
     ];
 }
+
+/// Kinds: all, those with booms, those without.
+const ALL: &[usize] = &[1, 2, 3, 4, 5, 6];
+const BOOMS: &[usize] = &[2, 3, 4, 6];
+const LIGHTS: &[usize] = &[1, 5];
 
 /// What a call is handed: ticks left in phase 0, then out of place, then M.
 pub(crate) const HANDED: [&str; 9] = [
@@ -66,14 +72,14 @@ pub(crate) const BOOKS: [u16; 10] = [0, 1, 256, 512, 539, 540, 541, 768, 65280, 
 /// How often, by kind where there is no other word.
 #[derive(Clone, Default)]
 pub(crate) struct PauseCounts {
-    met: [[u64; 5]; PauseMet::ALL.len()],
+    met: [[u64; KINDS]; PauseMet::ALL.len()],
     /// Events with ticks left, taken by code and refused by number.
-    pub(crate) codes: [[u64; 10]; 5],
-    pub(crate) refused: [[u64; 16]; 5],
+    pub(crate) codes: [[u64; 10]; KINDS],
+    pub(crate) refused: [[u64; 16]; KINDS],
     /// By call.
     pub(crate) handed: [[u64; HANDED.len()]; 6],
     /// M of a book read and of one written, by its number: 0 or 3.
-    pub(crate) books: [[[u64; BOOKS.len()]; 5]; 2],
+    pub(crate) books: [[[u64; BOOKS.len()]; KINDS]; 2],
     /// Books without M refused as torn, by n.
     pub(crate) old: [u64; 9],
 }
@@ -149,13 +155,8 @@ impl PauseCounts {
         if (book.len(), number) == (len - 2 * n, number::TORN_BOOK) {
             self.old[n] += 1;
         }
-        if book.len() == len {
-            let (shapes, times) = book[1..].split_at(3 * n);
-            let pairs = shapes.chunks_exact(3).zip(times.chunks_exact(6));
-            for (shape, time) in pairs {
-                let pause = u16::from_le_bytes([time[4], time[5]]);
-                self.setting(0, shape[0], pause, number);
-            }
+        for entry in book_entries(book) {
+            self.setting(0, entry.kind, entry.pause, number);
         }
     }
 
@@ -173,7 +174,7 @@ impl PauseCounts {
             _ => number::WRONG_SETTING,
         };
         let class = BOOKS.iter().position(|m| *m == pause);
-        if let (1..=4, Some(class), true) = (kind, class, number == due) {
+        if let (1..=6, Some(class), true) = (kind, class, number == due) {
             self.books[call][usize::from(kind)][class] += 1;
         }
     }

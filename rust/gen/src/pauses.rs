@@ -5,8 +5,8 @@ use crate::swept::{phases, vary};
 use engine::{boom, code, phase, Entry, Plant, Site};
 use std::collections::BTreeSet;
 
-/// M of the crossings; F is 2 and G is 1.
-const PAUSES: [u16; 4] = [0, 1, 3, 540];
+/// M of the crossings, of kinds 5 and 6 the first two; F is 2, of kind 6 15, and G is 1.
+const PAUSES: [u16; 4] = [0, 3, 1, 540];
 /// Trains calling, unsure, kiosk hold and operator hold: no reason, and each alone.
 const REASONS: [(u8, u8, u8, u8); 5] = [
     (0, 0, 0, 0),
@@ -61,7 +61,7 @@ pub fn pause_plants() -> Vec<Plant> {
     vary(plants, |plant| {
         let mut plants = vec![plant, plant];
         plants[1].crossings[0].booms[0] = boom::MOVING;
-        plants.truncate(if plant.site.entries[0].booms() > 0 {
+        plants.truncate(if plant.site.entries[0].has_booms() {
             2
         } else {
             1
@@ -70,14 +70,16 @@ pub fn pause_plants() -> Vec<Plant> {
     })
 }
 
-/// Every kind in every phase with each of these as M.
+/// Every kind in every phase with each of these as M, of kinds 5 and 6 half of them.
 fn with_pauses(pauses: &[u16]) -> Vec<Plant> {
     vary(phases(), |mut plant| {
+        let old = plant.site.entries[0].is_old();
         let with = |pause: &u16| {
             plant.site.entries[0].pause = *pause;
             plant
         };
-        pauses.iter().map(with).collect()
+        let first = pauses.len() / if old { 2 } else { 1 };
+        pauses[..first].iter().map(with).collect()
     })
 }
 
@@ -102,7 +104,7 @@ fn with_counts(mut plant: Plant, counts: (u16, u16)) -> Plant {
 /// M and the ticks left around their bounds in every phase, most of them spoilt; and both at every
 /// crossing past n.
 pub fn every_left() -> impl Iterator<Item = Plant> {
-    let plants = with_pauses(&[0, 1, 3, 255, 256, 539, 540, 541, 796, 65535]);
+    let plants = with_pauses(&[0, 3, 256, 540, 541, 1, 255, 539, 796, 65535]);
     let used = vary(plants, |plant| {
         let m = plant.site.entries[0].pause;
         let around = [m.wrapping_sub(1), m, m.wrapping_add(1), m.wrapping_add(256)];
@@ -128,9 +130,9 @@ pub fn every_left() -> impl Iterator<Item = Plant> {
 pub fn every_pause() -> impl Iterator<Item = Site> {
     let bytes = (0..=255).flat_map(|high| [high << 8, high << 8 | 255]);
     let pauses = (0..=600).chain(bytes);
-    let settings = pauses.flat_map(|pause| (1..=4).map(move |kind| (kind, pause)));
+    let settings = pauses.flat_map(|pause| (1..=6).map(move |kind| (kind, pause)));
     let alone = settings.map(|(kind, pause)| of_size(1, kind, pause));
-    alone.chain((1..=8).flat_map(|n| (1..=4).map(move |kind| of_size(n, kind, 540))))
+    alone.chain((1..=8).flat_map(|n| (1..=6).map(move |kind| of_size(n, kind, 540))))
 }
 
 /// `n` crossings of a kind, the last with this M.
@@ -141,7 +143,7 @@ fn of_size(n: u8, kind: u8, pause: u16) -> Site {
         kind,
         tracks: 2,
         mask: 0b10,
-        pre: 180,
+        pre: if kind == 6 { 15 } else { 180 },
         gap: if kind == 4 { 90 } else { 0 },
         pause: 0,
     });

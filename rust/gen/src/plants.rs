@@ -1,6 +1,7 @@
 //! Plants in range, reachable or not, with many numbers at their bounds.
 
 use crate::books::site;
+use crate::old::{give_long_out, set_old};
 use crate::rng::Rng;
 use engine::{boom, phase, Crossing, Entry, Plant};
 
@@ -10,6 +11,7 @@ pub fn plant(rng: &mut Rng) -> Plant {
     let mut plant = Plant::fresh(&settings);
     plant.beat = rng.below(4) as u8;
     let busy = rng.within(1..=4);
+    let aside = rng.aside();
     for i in 0..usize::from(settings.n) {
         if rng.below(4) < busy {
             plant.crossings[i] = crossing(rng, &settings.entries[i]);
@@ -17,6 +19,7 @@ pub fn plant(rng: &mut Rng) -> Plant {
             set_left(rng.aside(), &mut plant.crossings[i], &settings.entries[i]);
         }
     }
+    give_long_out(aside, &mut plant);
     plant
 }
 
@@ -41,7 +44,7 @@ fn count(rng: &mut Rng, special: &[u16], max: u32) -> u16 {
 
 /// A crossing record in range for these settings.
 pub(crate) fn crossing(rng: &mut Rng, entry: &Entry) -> Crossing {
-    let mut c = Crossing::FRESH;
+    let mut c = Crossing::fresh(entry);
     let swept = rng.once_in(4);
     for t in 0..usize::from(entry.tracks) {
         c.calling[t] = trains(rng);
@@ -56,7 +59,7 @@ pub(crate) fn crossing(rng: &mut Rng, entry: &Entry) -> Crossing {
         c.calling = [0; 4];
     }
     set_booms(rng, &mut c, entry);
-    for lamp in &mut c.lamps {
+    for lamp in &mut c.lamps[..5] {
         *lamp = (!rng.once_in(6)).into();
     }
     c.kiosk = rng.once_in(4).into();
@@ -65,6 +68,7 @@ pub(crate) fn crossing(rng: &mut Rng, entry: &Entry) -> Crossing {
     c.out = count(rng, &[1, 899, 900, 901], 901);
     set_phase(rng, &mut c, entry);
     set_left(rng.aside(), &mut c, entry);
+    set_old(rng.aside().aside(), &mut c, entry);
     c
 }
 
@@ -97,8 +101,8 @@ fn set_booms(rng: &mut Rng, c: &mut Crossing, entry: &Entry) {
 }
 
 fn set_phase(rng: &mut Rng, c: &mut Crossing, entry: &Entry) {
-    let phases: &[u8] = match entry.kind {
-        1 => &[0, 1, 3],
+    let phases: &[u8] = match entry.booms() {
+        0 => &[0, 1, 3],
         4 => &[0, 1, 2, 3, 3, 4],
         _ => &[0, 1, 3, 3, 4],
     };

@@ -22,16 +22,16 @@ pub fn preview_grid() -> impl Iterator<Item = Look> {
         .chain(spoilt())
 }
 
-/// Kinds in turn, track 0 plain, track 1 dependent, F 2 and for kind 4 G 1.
+/// Kinds in turn, track 0 plain, track 1 dependent, F 2, for kind 6 15, and for kind 4 G 1.
 pub(crate) fn fresh(n: u8) -> Plant {
     let mut site = Site { n, ..Site::ZERO };
     for (i, entry) in (0..n).zip(&mut site.entries) {
-        let kind = 1 + i % 4;
+        let kind = 1 + i % 6;
         *entry = Entry {
             kind,
             tracks: 2,
             mask: 0b10,
-            pre: 2,
+            pre: if kind == 6 { 15 } else { 2 },
             gap: u16::from(kind == 4),
             pause: 0,
         };
@@ -57,10 +57,10 @@ pub(crate) fn busy(n: u8, trains: u8) -> Plant {
 pub(crate) fn restless(n: u8) -> Plant {
     let mut plant = fresh(n);
     for (c, entry) in plant.crossings.iter_mut().zip(&plant.site.entries) {
-        c.phase = match entry.kind {
-            0 => phase::OPEN,
-            1 => phase::ALL_DOWN,
-            _ => phase::RAISING,
+        c.phase = match (entry.kind, entry.has_booms()) {
+            (0, _) => phase::OPEN,
+            (_, false) => phase::ALL_DOWN,
+            (_, true) => phase::RAISING,
         };
     }
     plant

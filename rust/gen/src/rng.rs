@@ -71,6 +71,16 @@ impl Rng {
         }
     }
 
+    /// The same, or once in six, by numbers further aside, one of `latest`.
+    pub fn pick_or_latest<T: Copy>(&mut self, list: &[T], later: &[T], latest: &[T]) -> T {
+        let mut aside = self.aside().aside();
+        let picked = self.pick_or(list, later);
+        match aside.once_in(6) {
+            true => aside.pick(latest),
+            false => picked,
+        }
+    }
+
     /// An index, each as often as its weight says.
     pub fn weighted(&mut self, weights: &[u32]) -> usize {
         let mut left = self.below(weights.iter().sum());

@@ -1,6 +1,7 @@
 //! Plants with exactly one kind of spoilt number.
 
 use crate::books::{entry, give_pauses};
+use crate::old::give_old_sheets;
 use crate::plants::{crossing, plant};
 use crate::rng::Rng;
 use engine::{boom, phase, Crossing, Entry, Plant, Site};
@@ -29,19 +30,22 @@ spoils! {
     PastCalling PastWaiting PastRoute PastOccupied PastUnsure PastBooms PastLamps
     PastKiosk PastOperator PastCountdown PastPhase PastTimer PastOut
     Pause EntryPastPause LeftOver LeftOutside LeftWithoutPause PastLeft
+    OldPre BoomLamp LackingBoomLamp PastBoomLamp
 }
 
 impl Spoil {
-    /// Any of them; those of document 02, T-06, which come last, by numbers aside.
+    /// Any of them; those of document 02, T-06 and T-09, which come last, by numbers aside.
     pub fn any(rng: &mut Rng) -> Spoil {
-        let (first, later) = Spoil::ALL.split_at(Spoil::Pause as usize);
-        rng.pick_or(first, later)
+        let (older, latest) = Spoil::ALL.split_at(Spoil::OldPre as usize);
+        let (first, later) = older.split_at(Spoil::Pause as usize);
+        rng.pick_or_latest(first, later, latest)
     }
 
     /// Any of the settings.
     pub fn of_settings(rng: &mut Rng) -> Spoil {
         let first = &Spoil::ALL[..=Spoil::EntryPastGap as usize];
-        rng.pick_or(first, &[Spoil::Pause, Spoil::EntryPastPause])
+        let later = [Spoil::Pause, Spoil::EntryPastPause];
+        rng.pick_or_latest(first, &later, &[Spoil::OldPre])
     }
 }
 
@@ -54,7 +58,7 @@ pub fn spoilt_plant(rng: &mut Rng, spoil: Spoil) -> Plant {
     let e = suited(rng, spoil);
     plant.site.entries[i] = e;
     plant.crossings[i] = match rng.flag() {
-        true => Crossing::FRESH,
+        true => Crossing::fresh(&e),
         false => crossing(rng, &e),
     };
     match spoil {
@@ -69,6 +73,7 @@ pub fn spoilt_plant(rng: &mut Rng, spoil: Spoil) -> Plant {
             spoil_flags(rng, &e, &mut plant.crossings[i], spoil);
             spoil_phase(rng, &e, &mut plant.crossings[i], spoil);
             spoil_left(rng, &e, &mut plant.crossings[i], spoil);
+            spoil_boom_lamps(rng, &mut plant.crossings[i], spoil);
             spoil_past(rng, &mut plant.crossings[past], spoil);
         }
     }
@@ -99,6 +104,7 @@ fn suited(rng: &mut Rng, spoil: Spoil) -> Entry {
         _ => e.kind,
     };
     e.kind = kind;
+    let old = rng.aside().aside();
     e.gap = if kind == 4 {
         rng.within(1..=90) as u16
     } else {
@@ -117,7 +123,19 @@ fn suited(rng: &mut Rng, spoil: Spoil) -> Entry {
         Spoil::WaitingOnPlain | Spoil::RouteOnPlain => (1 << (e.tracks - 1)) - 1,
         _ => (1 << e.tracks) - 1,
     };
+    suit_old(old, &mut e, spoil);
     e
+}
+
+/// Kind 6 where its numbers are spoilt, otherwise some under the sheet of 1959 (document 02, T-09).
+fn suit_old(rng: Rng, e: &mut Entry, spoil: Spoil) {
+    match spoil {
+        Spoil::OldPre | Spoil::BoomLamp => (e.kind, e.pre, e.gap) = (6, 15, 0),
+        _ => give_old_sheets(rng, std::slice::from_mut(e)),
+    }
+    if (spoil, e.kind) == (Spoil::LackingBoomLamp, 6) {
+        e.kind = 5;
+    }
 }
 
 /// A byte from `least` on, often at a bound.
@@ -130,13 +148,14 @@ fn byte(rng: &mut Rng, least: u8) -> u8 {
 
 fn spoil_entry(rng: &mut Rng, e: &mut Entry, spoil: Spoil) {
     match spoil {
-        Spoil::Kind => e.kind = rng.pick(&[0, 5, 255]),
+        Spoil::Kind => e.kind = rng.pick(&[0, 7, 255]),
         Spoil::Tracks => e.tracks = rng.pick(&[0, 5, 255]),
         Spoil::Mask => e.mask |= 1 << rng.within(e.tracks.into()..=7),
         Spoil::Pre => e.pre = rng.pick(&[0, 181, 65535]),
         Spoil::Gap => e.gap = rng.pick(&[0, 91, 65535]),
         Spoil::GapWithoutBooms => e.gap = rng.pick(&[1, 90, 65535]),
         Spoil::Pause => e.pause = rng.pick(&[541, 542, 796, 65535]),
+        Spoil::OldPre => e.pre = rng.pick(&[14, 14, 16, 16, 1, 5, 180, 271]),
         _ => {}
     }
 }
@@ -179,7 +198,7 @@ fn spoil_tracks(rng: &mut Rng, e: &Entry, c: &mut Crossing, spoil: Spoil) {
         }
         Spoil::LackingBoom => c.booms[lacking] = rng.pick(&[1, 2, boom::LOST, 255]),
         Spoil::Countdown => c.countdown = rng.pick(&[271, 526, 65535]),
-        Spoil::Out => c.out = rng.pick(&[902, 1024, 65535]),
+        Spoil::Out => c.out = rng.pick(&[1081, 1336, 65535]),
         _ => {}
     }
 }
@@ -212,7 +231,7 @@ fn spoil_phase(rng: &mut Rng, e: &Entry, c: &mut Crossing, spoil: Spoil) {
         Spoil::WarningTimerOver => (phase::WARNING, over(rng, e.pre)),
         Spoil::GapTimerZero => (phase::RIGHT_DOWN, 0),
         Spoil::GapTimerOver => (phase::RIGHT_DOWN, over(rng, e.gap)),
-        Spoil::StillTimer if e.kind == 1 => (rng.pick(&[0, 3]), 1),
+        Spoil::StillTimer if !e.has_booms() => (rng.pick(&[0, 3]), 1),
         Spoil::StillTimer => (rng.pick(&[0, 3, 4]), rng.pick(&[1, 65535])),
         _ => return,
     };
@@ -221,8 +240,8 @@ fn spoil_phase(rng: &mut Rng, e: &Entry, c: &mut Crossing, spoil: Spoil) {
 
 /// Ticks left to motorists: more than M, out of phase 0, or without M (document 02, T-06).
 fn spoil_left(rng: &mut Rng, e: &Entry, c: &mut Crossing, spoil: Spoil) {
-    let outside: &[(u8, u16)] = match e.kind {
-        1 => &[(phase::WARNING, 1), (phase::ALL_DOWN, 0)],
+    let outside: &[(u8, u16)] = match e.booms() {
+        0 => &[(phase::WARNING, 1), (phase::ALL_DOWN, 0)],
         4 => &[(phase::RIGHT_DOWN, 1), (phase::RAISING, 0)],
         _ => &[(phase::WARNING, 1), (phase::RAISING, 0)],
     };
@@ -235,6 +254,17 @@ fn spoil_left(rng: &mut Rng, e: &Entry, c: &mut Crossing, spoil: Spoil) {
     (c.phase, c.timer, c.left) = (phase, timer, left);
 }
 
+/// A boom lamp that is neither whole nor dead, or that is not there (document 02, T-09).
+fn spoil_boom_lamps(rng: &mut Rng, c: &mut Crossing, spoil: Spoil) {
+    let least = match spoil {
+        Spoil::BoomLamp => 2,
+        Spoil::LackingBoomLamp => 1,
+        _ => return,
+    };
+    let value = byte(rng, least);
+    c.lamps[rng.within(5..=6) as usize] = value;
+}
+
 fn spoil_past(rng: &mut Rng, c: &mut Crossing, spoil: Spoil) {
     let i = rng.below(4) as usize;
     match spoil {
@@ -244,8 +274,9 @@ fn spoil_past(rng: &mut Rng, c: &mut Crossing, spoil: Spoil) {
         Spoil::PastOccupied => c.occupied[i] = byte(rng, 1),
         Spoil::PastUnsure => c.unsure[i] = byte(rng, 1),
         Spoil::PastBooms => c.booms[i] = rng.pick(&[1, 2, boom::LOST, 255]),
-        Spoil::PastLamps if rng.flag() => c.lamps = [1; 5],
+        Spoil::PastLamps if rng.flag() => c.lamps[..5].fill(1),
         Spoil::PastLamps => c.lamps[rng.below(5) as usize] = byte(rng, 1),
+        Spoil::PastBoomLamp => c.lamps[5 + i % 2] = byte(rng, 1),
         Spoil::PastKiosk => c.kiosk = byte(rng, 1),
         Spoil::PastOperator => c.operator = byte(rng, 1),
         Spoil::PastCountdown => c.countdown = rng.pick(&[1, 256, 270]),

@@ -130,16 +130,16 @@ fn with_unsure(mut plant: Plant, flags: [u8; 4]) -> Plant {
     plant
 }
 
-/// The phases of every kind, with track 0 plain and dependent; F is 2 and G is 1.
+/// The phases of every kind, with track 0 plain and dependent; F is 2, of kind 6 15, and G is 1.
 pub(crate) fn phases() -> Vec<Plant> {
     let mut plants = Vec::new();
-    for (kind, mask) in (1..=4).flat_map(|kind| [(kind, 0), (kind, 1)]) {
+    for (kind, mask) in (1..=6).flat_map(|kind| [(kind, 0), (kind, 1)]) {
         let mut site = Site { n: 1, ..Site::ZERO };
         site.entries[0] = Entry {
             kind,
             tracks: 2,
             mask,
-            pre: 2,
+            pre: if kind == 6 { 15 } else { 2 },
             gap: u16::from(kind == 4),
             pause: 0,
         };

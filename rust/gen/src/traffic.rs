@@ -2,9 +2,10 @@
 //! releases run to their end and detectors sweep their counters, mixed with junk.
 
 mod drives;
+mod old;
 mod pauses;
 
-use crate::events::{event, junk_event};
+use crate::events::{event, junk_event, lamp};
 use crate::plants::report;
 use crate::rng::Rng;
 use crate::swept::{fullest, trains};
@@ -81,6 +82,9 @@ impl<'a> List<'a> {
     }
 
     fn burst(&mut self) {
+        if let Some(c) = self.with_old_sheet() {
+            return self.overdue(c);
+        }
         if let Some(c) = self.with_pause() {
             return self.motorists(c);
         }
@@ -131,7 +135,7 @@ impl<'a> List<'a> {
             7 => [code::TIME_RELEASE, c, 0, 0],
             8 => self.follow(c),
             9 => self.any_boom(c),
-            10 => [code::LAMP_REPORT, c, self.rng.below(5) as u8, on],
+            10 => [code::LAMP_REPORT, c, lamp(self.rng, &self.plant, c), on],
             _ => junk_event(self.rng, &self.plant),
         }
     }

@@ -1,6 +1,6 @@
 //! Counters of what was met at crossings with a full or an unsure track (document 02, T-01).
 
-use crate::coverage::sums;
+use crate::coverage::{sums, KINDS};
 use crate::swept::trains;
 use engine::crossing::{has_reason, is_held};
 use engine::{code, phase, Crossing, Entry};
@@ -52,9 +52,9 @@ impl Met {
 /// How often, by kind.
 #[derive(Clone, Default)]
 pub(crate) struct UnsureCounts {
-    met: [[u64; 5]; Met::ALL.len()],
+    met: [[u64; KINDS]; Met::ALL.len()],
     /// Strike-ins on a full track, by the phase before.
-    phases: [[u64; 5]; 5],
+    phases: [[u64; 5]; KINDS],
 }
 
 impl UnsureCounts {

@@ -49,7 +49,7 @@ fn the_same_on_every_machine() {
     }
     assert_eq!(hash, SAME);
 }
-const SAME: u64 = 13051179652684330232;
+const SAME: u64 = 17607823462710881376;
 
 #[test]
 fn good_books_are_taken() {
@@ -95,12 +95,12 @@ fn plants_are_in_range() {
         assert!(in_range(&swept_plant(&mut rng).0));
     }
     let grid = swept_grid();
-    assert_eq!(grid.len(), 28_800);
+    assert_eq!(grid.len(), 41_400);
     let reports = lost_reports();
-    assert_eq!(reports.len(), 30_720);
+    assert_eq!(reports.len(), 33_280);
     assert!(grid.iter().chain(&reports).all(|(p, _)| in_range(p)));
     let plants = lost_plants();
-    assert_eq!(plants.len(), 5_632);
+    assert_eq!(plants.len(), 5_888);
     assert!(plants.iter().all(in_range));
 }
 
@@ -191,7 +191,7 @@ fn every_flag_has_every_byte() {
     let goals = "flag bytes event";
     assert!(lacks(goals, &mut every_flag()).is_empty());
     let mut but_one = every_flag().filter(|plant| plant.crossings[3].kiosk != 77);
-    let [unused, used] = ["unused 34047 of 34048", "used 38911 of 38912"];
+    let [unused, used] = ["unused 37631 of 37632", "used 43007 of 43008"];
     let both = [unused, used].map(|goal| format!("{goals} {goal}"));
     assert_eq!(lacks(goals, &mut but_one), both);
 }
@@ -212,7 +212,7 @@ fn every_boom_has_every_byte() {
 fn every_boom_is_in_range_by_its_crossing() {
     for plant in every_boom() {
         let known = (0..8).all(|i| {
-            let booms = [0, 0, 2, 2, 4][usize::from(plant.site.entries[i].kind)];
+            let booms = [0, 0, 2, 2, 4, 0, 2][usize::from(plant.site.entries[i].kind)];
             let (there, lacking) = plant.crossings[i].booms.split_at(booms);
             there.iter().all(|b| *b <= 3) && lacking.iter().all(|b| *b == 0)
         });
@@ -244,7 +244,7 @@ fn damaged_sheets_are_refused() {
 fn traffic_reaches_its_states() {
     let mut rng = Rng::new(6);
     let mut seen = Coverage::new();
-    for _ in 0..150 {
+    for _ in 0..600 {
         let settings = quick_site(&mut rng);
         let mut plant = engine::Plant::fresh(&settings);
         let events = coherent(&mut rng, &plant, 4096);

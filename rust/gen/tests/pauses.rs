@@ -77,14 +77,14 @@ fn plants_in_a_pause() {
 #[test]
 fn grids() {
     let plants = pause_plants();
-    assert_eq!(plants.len(), 5_160);
+    assert_eq!(plants.len(), 6_090);
     assert!(plants.iter().all(in_range));
     assert_eq!(pause_events().count(), 16 * plants.len());
     let lefts: Vec<_> = every_left().collect();
-    assert_eq!(lefts.len(), 32 * 10 * 13 + 8 * 70);
+    assert_eq!(lefts.len(), (32 * 10 + 14 * 5) * 13 + 12 * 70);
     let sound = lefts.iter().filter(|plant| in_range(plant)).count();
-    assert_eq!(sound, 544);
-    assert_eq!(every_pause().count(), 4 * (601 + 512 + 8));
+    assert_eq!(sound, 686);
+    assert_eq!(every_pause().count(), 6 * (601 + 512 + 8));
 }
 
 /// Plants and books alone, without a list before them, meet everything.

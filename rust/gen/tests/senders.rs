@@ -80,7 +80,7 @@ fn grids() {
     let bytes = 256 * 256 * 2 + 6 * 256 * 256;
     assert_eq!(right_grid().count(), 199_296 + bytes);
     assert_eq!(right_previews().count(), 161_280);
-    assert_eq!(views().count(), 81_504);
+    assert_eq!(views().count(), 82_272);
     let spoilt = right_grid().filter(|(plant, _)| !in_range(plant)).count();
     assert_eq!(4 * spoilt, 199_296);
 }

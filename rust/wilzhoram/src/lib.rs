@@ -2,8 +2,8 @@
 //! laid out as there, and every byte pattern is a value of each that a call is handed: what is
 //! out of range, the calls refuse.
 
-/// The settings of one crossing. `pause` is M, the ticks for motorists between two closures, 0 to
-/// 540 at every kind (T-06).
+/// The settings of one crossing. Kinds 5 and 6 are 1 and 2 under the sheet of 1959 (T-09). `pause`
+/// is M, the ticks for motorists between two closures, 0 to 540 at every kind (T-06).
 #[repr(C)]
 #[derive(Clone, Copy, PartialEq, Debug)]
 pub struct Entry {
@@ -46,8 +46,9 @@ pub mod sender {
 }
 
 /// What the plant holds for one crossing. Each byte of route, occupied, unsure, lamps, kiosk
-/// and operator is a flag, 0 or 1; any other is out of range, number 15. `left` are the ticks left
-/// to motorists, 0 to M in phase 0 and 0 in any other (T-06).
+/// and operator is a flag, 0 or 1; any other is out of range, number 15. Lamps 5 and 6 are those of
+/// booms 0 and 1 of kind 6, elsewhere 0 (T-09). `left` are the ticks left to motorists, 0 to M in
+/// phase 0 and 0 in any other (T-06). `out` are the ticks out of normal, 0 to 1,080 (T-09).
 #[repr(C)]
 #[derive(Clone, Copy, PartialEq, Debug)]
 pub struct Crossing {
@@ -57,7 +58,7 @@ pub struct Crossing {
     pub occupied: [u8; 4],
     pub unsure: [u8; 4],
     pub booms: [u8; 4],
-    pub lamps: [u8; 5],
+    pub lamps: [u8; 7],
     pub kiosk: u8,
     pub operator: u8,
     pub countdown: u16,

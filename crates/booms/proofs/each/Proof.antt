@@ -1,6 +1,5 @@
-use borrow.Author.Needs.{needs}
-use borrow.Author.Tests.{eq-eqb, ne-eqb}
 use Rattle.booms.specs.Sides.{on-sides}
+use borrow.Author.Needs.{needs}
 use Rattle.booms.proofs.each.Statement.{statement}
 use Rattle.booms.proofs.each.Tie as tie
 
@@ -9,15 +8,19 @@ lights-only-requires c κs = search needs
 
 returns : tie.Need-returns
 unfolding on-sides
-returns c = simp (← c .before .lights-only .ensures, c .if1 .taken)
+returns c = simp (c .if1 .taken, ← c .before .lights-only .ensures)
+
+four-booms-requires : tie.Need-four-booms-requires
+four-booms-requires c κs = search needs
 
 returns-2 : tie.Need-returns-2
 unfolding on-sides
-returns-2 c = simp (eq-eqb _ _ (c .if2 .taken), ← c .before .before .lights-only .ensures, c .before .if1 .left)
+returns-2 c = simp (c .if2 .taken, ← c .before .four-booms .ensures, c .before .before .if1 .left, ← c .before .before .before .lights-only .ensures)
 
 returns-3 : tie.Need-returns-3
 unfolding on-sides
-returns-3 c = simp (ne-eqb _ _ (c .if2 .left), ← c .before .before .lights-only .ensures, c .before .if1 .left)
+returns-3 c = simp (c .if2 .left, ← c .before .four-booms .ensures, c .before .before .if1 .left, ← c .before .before .before .lights-only .ensures)
 
 pub each-spec : {M : Type 1} → statement M
-each-spec = tie.close (tie.spec lights-only-requires returns returns-2 returns-3)
+each-spec =
+    tie.close (tie.spec lights-only-requires returns four-booms-requires returns-2 returns-3)

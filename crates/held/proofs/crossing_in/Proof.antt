@@ -27,9 +27,6 @@ phase-in-requires c κs = search needs
 left-limit-requires : tie.Need-left-limit-requires
 left-limit-requires c κs = search needs
 
-add-result : tie.Need-add-result
-add-result c = search needs
-
 returns : tie.Need-returns
 unfolding crossing-in
 returns c = simp (c .before .before .left-limit .ensures, c .before .before .before .phase-in .ensures, c .before .before .before .before .before .before .before .lamps-in .ensures, c .before .before .before .before .before .before .before .before .booms-in .ensures, c .before .before .before .before .before .before .before .before .before .track-in4 .ensures, c .before .before .before .before .before .before .before .before .before .before .track-in3 .ensures, c .before .before .before .before .before .before .before .before .before .before .before .track-in2 .ensures, c .before .before .before .before .before .before .before .before .before .before .before .before .track-in .ensures)
@@ -46,5 +43,4 @@ crossing-in-spec =
     lamps-in-requires
     phase-in-requires
     left-limit-requires
-    add-result
     returns)

@@ -19,7 +19,7 @@ use Rattle.plant_tick.proofs.tick_all.Tie as tie
 
 abbrev Inv-loop : tie.InvT-loop
 Inv-loop beat site n next₀ written₀ i₀ next written i =
-    (n ≤ 8) × ((i ≤ n) × ((next ≡ put-first i (next-at site next₀) next₀) × ((written ≡ sum-below i (written-off next₀)) × (written ≤ 2040 * i))))
+    (n ≤ 8) × ((i ≤ n) × ((next ≡ put-first i (next-at site next₀) next₀) × ((written ≡ sum-below i (written-off site next₀)) × (written ≤ 2040 * i))))
 
 abbrev μ-loop : tie.MeasureT-loop
 μ-loop beat site n next₀ written₀ i₀ next written i = n - i
@@ -90,8 +90,8 @@ returns c =
     let g : (i : ℕ) → Tracks (getD l i no-crossing) = (λ i. each-tracks l _ i (a .good .1 .1 .0 .1 .1)) in
     let past : (i : ℕ) → site .n ≤ i → i < 8 → next-at site l i ≡ getD l i no-crossing =
     (λ i m b. past-stays _ _ (h .past i b m) (zero-kind _ (h .entry-past i b m)) (g i)) in
-    let none : (i : ℕ) → site .n ≤ i → i < 8 → written-off l i ≡ 0 = (λ i m b. past-written (getD (site .entries) i no-entry) _ (h .past i b m)) in
-    (simp (w .1 .1 .0, w .1 .1 .1 .0, end, first-tab (next-at site l) l no-crossing (site .n) 8 eight (h .count) past, ← sum-past (written-off l) 8 (site .n) (h .count) none), omega arith)
+    let none : (i : ℕ) → site .n ≤ i → i < 8 → written-off site l i ≡ 0 = (λ i m b. past-written (getD (site .entries) i no-entry) _ (h .past i b m) (zero-kind _ (h .entry-past i b m))) in
+    (simp (w .1 .1 .0, w .1 .1 .1 .0, end, first-tab (next-at site l) l no-crossing (site .n) 8 eight (h .count) past, ← sum-past (written-off site l) 8 (site .n) (h .count) none), omega arith)
 
 pub tick-all-spec : {M : Type 1} → statement M
 tick-all-spec =

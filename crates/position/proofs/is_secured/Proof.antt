@@ -9,9 +9,13 @@ element-copy-out-result c = search needs
 closed-requires : tie.Need-closed-requires
 closed-requires c κs = search needs
 
+boom-lamps-whole-requires : tie.Need-boom-lamps-whole-requires
+boom-lamps-whole-requires c κs = search needs
+
 returns : tie.Need-returns
 unfolding secured
-returns c = simp (c .closed .ensures)
+returns c = simp (c .boom-lamps-whole .ensures, c .before .closed .ensures)
 
 pub is-secured-spec : {M : Type 1} → statement M
-is-secured-spec = tie.close (tie.spec element-copy-out-result closed-requires returns)
+is-secured-spec =
+    tie.close (tie.spec element-copy-out-result closed-requires boom-lamps-whole-requires returns)

@@ -7,6 +7,9 @@ use Rattle.verdict.proofs.place_limit.Tie as tie
 boom-count-requires : tie.Need-boom-count-requires
 boom-count-requires c κs = search needs
 
+lamp-count-requires : tie.Need-lamp-count-requires
+lamp-count-requires c κs = search needs
+
 returns : tie.Need-returns
 unfolding place-limit
 returns c = simp (c .match .keys1)
@@ -29,7 +32,7 @@ returns-5 c = simp (c .boom-count .ensures, c .before .match .keys5)
 
 returns-6 : tie.Need-returns-6
 unfolding place-limit
-returns-6 c = simp (c .match .keys6)
+returns-6 c = simp (c .lamp-count .ensures, c .before .match .keys6)
 
 returns-7 : tie.Need-returns-7
 unfolding place-limit
@@ -40,6 +43,7 @@ place-limit-spec =
     tie.close
     (tie.spec
     boom-count-requires
+    lamp-count-requires
     returns
     returns-2
     returns-3

@@ -44,7 +44,7 @@ fn lower_entries(entry: &Entry) -> Vec<Entry> {
         let mask = entry.mask & !(1 << t);
         list.push(Entry { mask, ..*entry });
     }
-    for pre in [1, 2, 3, entry.pre / 2] {
+    for pre in [1, 2, 3, 15, entry.pre / 2] {
         list.push(Entry { pre, ..*entry });
     }
     for gap in [1, 2, entry.gap / 2] {
@@ -145,15 +145,15 @@ fn lower_flags(flag: u8, with: &mut dyn FnMut(&dyn Fn(&mut Crossing))) {
         with(&|c| c.occupied[i] = flag);
         with(&|c| c.unsure[i] = flag);
     }
-    for i in 0..5 {
+    for i in 0..7 {
         with(&|c| c.lamps[i] = flag);
     }
     with(&|c| c.kiosk = flag);
     with(&|c| c.operator = flag);
 }
 
-fn lower_records(c: &Crossing) -> Vec<Crossing> {
-    let mut list = vec![Crossing::FRESH, Crossing::ZERO];
+fn lower_records(entry: &Entry, c: &Crossing) -> Vec<Crossing> {
+    let mut list = vec![Crossing::fresh(entry), Crossing::ZERO];
     let mut with = |change: &dyn Fn(&mut Crossing)| {
         let mut lower = *c;
         change(&mut lower);
@@ -179,7 +179,7 @@ fn lower_records(c: &Crossing) -> Vec<Crossing> {
     for lower in [0, 1, c.left / 2, c.left.saturating_sub(1)] {
         with(&|c| c.left = lower);
     }
-    for lower in [0, 1, c.out / 2] {
+    for lower in [0, 1, c.out / 2, 901, 1078, 1079, 1080, 1081] {
         with(&|c| c.out = lower);
     }
     with(&|c| (c.phase, c.timer) = (0, 0));
@@ -191,16 +191,27 @@ fn lower_records(c: &Crossing) -> Vec<Crossing> {
 /// The plants with one number lowered.
 pub(super) fn lower_plants(plant: &Plant) -> Vec<Plant> {
     let sites = lower_sites(&plant.site).into_iter();
-    let mut list: Vec<Plant> = sites.map(|site| Plant { site, ..*plant }).collect();
+    let mut list: Vec<Plant> = sites.map(|site| with_site(plant, site)).collect();
     list.push(Plant { beat: 0, ..*plant });
     for (i, record) in plant.crossings.iter().enumerate() {
-        for lower in lower_records(record) {
+        for lower in lower_records(&plant.site.entries[i], record) {
             let mut changed = *plant;
             changed.crossings[i] = lower;
             list.push(changed);
         }
     }
     list
+}
+
+/// The plant with other settings; boom lamps go where the new kind has none of its own.
+fn with_site(plant: &Plant, site: Site) -> Plant {
+    let mut changed = Plant { site, ..*plant };
+    for (i, c) in changed.crossings.iter_mut().enumerate() {
+        if plant.site.entries[i].lamps() > site.entries[i].lamps() {
+            c.lamps[site.entries[i].lamps().into()..].fill(0);
+        }
+    }
+    changed
 }
 
 pub(super) fn plant_without(plant: &Plant, i: usize) -> Plant {

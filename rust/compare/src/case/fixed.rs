@@ -5,17 +5,18 @@ use crate::Command;
 use engine::{book_len, panel_len, sender, Plant};
 use gen::{
     all_lengths, board_edges, board_grid, book_bytes, event_grid, every_boom, every_flag,
-    every_left, every_pause, lost_plants, lost_reports, old_book, pause_events, pause_plants,
-    plant, preview_grid, right_grid, right_previews, sheet_bytes, shift_grid, swept_grid, views,
-    Rng,
+    every_left, every_old, every_pause, lost_plants, lost_reports, old_book, old_lamps, old_panels,
+    old_settings, old_ticks, pause_events, pause_plants, plant, preview_grid, right_grid,
+    right_previews, sheet_bytes, shift_grid, swept_grid, views, Rng,
 };
 
 impl Case {
     /// Arrow boards around every bound; pairs of sheets; books of every length, a grid of events and
     /// frames of every length on a few plants, swept counters at every kind, lost booms at every
-    /// kind that has them, the time for motorists at every kind, and every value of every flag and
-    /// of every boom report; then grids of previews; then of senders. In all but the last an event
-    /// comes from one who may send it, and a panel is drawn for detection.
+    /// kind that has them, the time for motorists at every kind, plants under the sheet of 1959,
+    /// and every value of every flag and of every boom report; then grids of previews; then of
+    /// senders. In all but the last an event comes from one who may send it, and a panel is drawn
+    /// for detection.
     pub fn fixed() -> impl Iterator<Item = Case> {
         let boards = board_edges().map(Case::Board);
         let sheets = shift_grid().map(|[hut, cabin]| Case::Agree { hut, cabin });
@@ -34,10 +35,21 @@ impl Case {
             [tick, draw]
         });
         let bytes = every_flag().chain(every_boom()).flat_map(calls);
-        let all = boards.chain(sheets).chain(books).chain(grids);
-        let all = all.chain(events).chain(lost);
-        let all = all.chain(fixed_pauses()).chain(bytes);
-        all.chain(fixed_previews()).chain(fixed_senders())
+        // Each in a box: together they are too large for the stack of a comparison.
+        let parts: [Box<dyn Iterator<Item = Case>>; 11] = [
+            Box::new(boards),
+            Box::new(sheets),
+            Box::new(books),
+            Box::new(grids),
+            Box::new(events),
+            Box::new(lost),
+            Box::new(fixed_pauses()),
+            Box::new(fixed_old()),
+            Box::new(bytes),
+            Box::new(fixed_previews()),
+            Box::new(fixed_senders()),
+        ];
+        parts.into_iter().flatten()
     }
 
     /// Every value of each number that an arrow board's distance is asked with, and all of its
@@ -124,6 +136,37 @@ fn fixed_pauses() -> impl Iterator<Item = Case> {
         calls.chain([tick_preview(plant)])
     });
     books.chain(events).chain(ticks).chain(lefts)
+}
+
+/// The sheet of 1959: books of every kind around the bounds of F, reports of every lamp, ticks
+/// around the bounds of ticks out of normal, some in a row, panels with every combination of lamps;
+/// plants with boom lamps and ticks out of normal around their bounds.
+fn fixed_old() -> impl Iterator<Item = Case> {
+    let books = old_settings().flat_map(|site| {
+        let frame = older(book_len(site.n));
+        let book = book_bytes(&site);
+        [Case::Read { book }, Case::Write { site, frame }]
+    });
+    let reports = old_lamps().map(|(plant, event)| rightful(plant, event));
+    let ticks = old_ticks().into_iter().flat_map(|plant| {
+        let run = Case::Run {
+            plant,
+            sheet: sheet_bytes(&[[0; 4]; 3]),
+            frame: older(panel_len(plant.site.n)),
+        };
+        [rightful(plant, [0; 4]), run]
+    });
+    let panels = old_panels().map(|plant| Case::Draw {
+        plant,
+        sender: sender::DETECTION,
+        frame: older(panel_len(plant.site.n)),
+    });
+    let bounds = every_old().flat_map(|plant| {
+        let calls = calls(plant).into_iter();
+        calls.chain([tick_preview(plant)])
+    });
+    let cases = books.chain(reports).chain(ticks);
+    cases.chain(panels).chain(bounds)
 }
 
 fn tick_preview(plant: Plant) -> Case {

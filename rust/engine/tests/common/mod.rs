@@ -118,9 +118,10 @@ pub fn program_case() -> Plant {
     plant
 }
 
-/// Settings of a kind with one plain track and for kind 4 with G 2.
+/// Settings of a kind with one plain track, for kind 4 with G 2, for kind 6 with F 15.
 pub fn settings(kind: u8, pre: u16, pause: u16) -> Entry {
     let gap = if kind == 4 { 2 } else { 0 };
+    let pre = if kind == 6 { 15 } else { pre };
     paused(entry(kind, 1, 0, pre, gap), pause)
 }
 
@@ -129,7 +130,7 @@ pub fn closed(kind: u8, pre: u16, pause: u16) -> Plant {
     let entry = settings(kind, pre, pause);
     let mut plant = fresh(&[entry]);
     take(&mut plant, &[[1, 0, 0, 0]]);
-    ticks(&mut plant, (pre + entry.gap).into());
+    ticks(&mut plant, (entry.pre + entry.gap).into());
     report_all(&mut plant, boom::DOWN);
     assert_eq!(at(&plant, 0), (phase::ALL_DOWN, 0));
     plant

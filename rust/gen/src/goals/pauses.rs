@@ -1,7 +1,7 @@
 //! What the time for motorists should reach (document 02, T-06).
 
-use super::{Goal, CALLS, WITH_PLANT};
-use crate::coverage::Coverage;
+use super::{has_booms, Goal, CALLS, WITH_PLANT};
+use crate::coverage::{Coverage, KINDS};
 use crate::paused::{PauseMet, BOOKS, HANDED};
 
 /// The refusals that depend on the crossing.
@@ -12,20 +12,19 @@ impl Coverage {
         let mut goals = Vec::new();
         let mut goal = |group, name, count| goals.push(Goal::once(group, name, count));
         let pauses = &self.pauses;
-        for (met, name, [first, last]) in PauseMet::ALL {
-            for kind in first..=last {
-                let count = pauses.met(met, kind);
+        for (met, name, kinds) in PauseMet::ALL {
+            for kind in kinds {
+                let count = pauses.met(met, *kind);
                 goal("pause, kind:event", format!("{kind}:{name}"), count);
             }
         }
-        for kind in 1..=4 {
-            // Kind 1 has no boom.
-            for code in (0..10).filter(|code| (kind, *code) != (1, 8)) {
+        for kind in 1..KINDS {
+            for code in (0..10).filter(|code| *code != 8 || has_booms(kind)) {
                 let count = pauses.codes[kind][code];
                 goal("pause, kind:code", format!("{kind}:{code}"), count);
             }
         }
-        for (kind, n) in (1..=4).flat_map(|kind| REFUSALS.map(|n| (kind, n))) {
+        for (kind, n) in (1..KINDS).flat_map(|kind| REFUSALS.map(|n| (kind, n))) {
             let count = pauses.refused[kind][n];
             goal("pause, kind:number", format!("{kind}:{n}"), count);
         }

@@ -14,7 +14,7 @@ fn ordered(phase: u8, b: u8) -> u8 {
 }
 
 impl List<'_> {
-    fn booms(&self, c: u8) -> u8 {
+    pub(super) fn booms(&self, c: u8) -> u8 {
         self.plant.site.entries[usize::from(c)].booms()
     }
 

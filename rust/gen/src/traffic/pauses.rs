@@ -10,7 +10,7 @@ impl List<'_> {
         let weights = self.plant.site.entries.map(|entry| match entry.pause {
             0 => 0,
             // Long enough for lights only to end a warning with a release.
-            _ if entry.kind == 1 && entry.pre + entry.pause >= 270 => 6,
+            _ if !entry.has_booms() && entry.pre + entry.pause >= 270 => 6,
             _ => 1,
         });
         let mut aside = self.rng.aside();
@@ -68,7 +68,7 @@ impl List<'_> {
         let t = self.own_track(c);
         self.closure(c, t);
         let rest = self.before_release(c);
-        if self.plant.site.entries[usize::from(c)].kind == 1 {
+        if self.booms(c) == 0 {
             // No boom keeps the time for motorists from running.
             self.ticks(rest.saturating_sub(270));
         }

@@ -1,21 +1,28 @@
 use mathlib.Core.Path.{_≡_, refl}
-use mathlib.Core.Bool.{Bool, true, false}
+use mathlib.Core.Bool.{Bool, true, false, cond, _&&_}
+use mathlib.Core.List.{[], _∷_}
 use mir.Val.{boolByte}
-use Rattle.machine.specs.Common.{bit}
+use lib.Dec.{ltb}
+use Rattle.machine.specs.Common.{tab, bit}
+use Rattle.machine.specs.Plant.{old-booms}
 use borrow.Author.Needs.{needs}
 use Rattle.machine.proofs.Crossing.fresh.Statement.{statement}
 use Rattle.machine.proofs.Crossing.fresh.Tie as tie
 
--- a test as a number
-as-bit : (b : Bool) → boolByte b ≡ bit b 1
-as-bit true = refl
-as-bit false = refl
+-- five lamps of a crossing that is used; those of the booms under the 1959 sheet
+by-lamp : (used old : Bool) → (let whole = boolByte used in let boom = boolByte (used && old) in whole ∷ whole ∷ whole ∷ whole ∷ whole ∷ boom ∷ boom ∷ []) ≡ tab 7 (λ l. bit (ltb l (bit used (cond old 7 5))) 1)
+by-lamp true true = refl
+by-lamp true false = refl
+by-lamp false old = refl
 
-cast-t8 : tie.Need-cast-t8
-cast-t8 c = search needs
+cast-whole : tie.Need-cast-whole
+cast-whole c = search needs
+
+cast-boom : tie.Need-cast-boom
+cast-boom c = search needs
 
 returns : tie.Need-returns
-returns c = simp as-bit
+returns c = simp (by-lamp (c .args .used) (old-booms (c .args .kind)))
 
 pub fresh-spec : {M : Type 1} → statement M
-fresh-spec = tie.close (tie.spec cast-t8 returns)
+fresh-spec = tie.close (tie.spec cast-whole cast-boom returns)
