@@ -2,7 +2,7 @@
  * 0 and 6 to 11. It may not take the hold off: number 17, and it sees what it saw. The local operator may. */
 #include "closed.h"
 
-static const wilzhoram_event_bytes hold_off = {4, 0, 0, 0};
+static const wilzhoram_event_bytes hold_off = {WILZHORAM_CODE_OPERATOR_HOLD, 0, 0, 0};
 
 /* Gives operator hold off and prints what the centre then sees. */
 static wilzhoram_plant press(const char *name, uint8_t sender, wilzhoram_plant plant) {

@@ -13,19 +13,18 @@ static int refused(uint8_t number) {
 }
 
 static void print_panel(const uint8_t *panel, size_t length) {
-    for (size_t i = 0; i < length; i++) {
-        if (i % 16 == 0)
-            printf("%zu:", i / 16);
-        printf(" %02x", panel[i]);
-        if (i % 16 == 15)
-            printf("\n");
+    for (size_t i = 0; WILZHORAM_PANEL_LENGTH(i) < length; i++) {
+        printf("%zu:", i);
+        for (size_t at = WILZHORAM_PANEL_LENGTH(i); at < WILZHORAM_PANEL_LENGTH(i + 1); at++)
+            printf(" %02x", panel[at]);
+        printf("\n");
     }
 }
 
 /* Draws the panel of a plant as a sender sees it (document 02, T-04) and prints it. */
 static int show(wilzhoram_plant plant, uint8_t sender) {
-    uint8_t panel[16 * 8];
-    size_t length = 16 * (size_t)plant.site.n;
+    uint8_t panel[WILZHORAM_PANEL_LENGTH(WILZHORAM_MOST_CROSSINGS)];
+    size_t length = WILZHORAM_PANEL_LENGTH(plant.site.n);
     if (refused(wilzhoram_draw(plant, sender, panel, length)))
         return 1;
     print_panel(panel, length);

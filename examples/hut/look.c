@@ -3,12 +3,13 @@
  * would raise the booms, and that key is pressed. */
 #include "closed.h"
 
-static const wilzhoram_event_bytes time_release = {7, 0, 0, 0}, hold_off = {4, 0, 0, 0};
+static const wilzhoram_event_bytes time_release = {WILZHORAM_CODE_TIME_RELEASE, 0, 0, 0};
+static const wilzhoram_event_bytes hold_off = {WILZHORAM_CODE_OPERATOR_HOLD, 0, 0, 0};
 static const uint8_t desk = WILZHORAM_SENDER_OPERATOR;
 
 /* What a key would give, over the panel as it stands; the plant is not moved on. */
 static void look(const char *key, wilzhoram_plant plant, wilzhoram_event_bytes event) {
-    uint8_t panel[16];
+    uint8_t panel[WILZHORAM_PANEL_LENGTH(1)];
     wilzhoram_draw(plant, desk, panel, sizeof panel);
     wilzhoram_preview_result preview = wilzhoram_preview(plant, desk, event, panel, sizeof panel);
     printf("look: %s, number %u, written off %u\n", key, preview.number, (unsigned)preview.written);

@@ -4,14 +4,18 @@
 #include <stdio.h>
 #include <string.h>
 
-enum { MOST = 300 };
+enum { MOST = WILZHORAM_MOST_SHIFT_EVENTS + 1 };
 
 static const struct {
     char letter;
     wilzhoram_event_bytes event;
 } letters[] = {
-    {'.', {0, 0, 0, 0}}, {'S', {1, 0, 0, 0}},   {'P', {2, 0, 0, 0}},
-    {'s', {1, 1, 0, 0}}, {'?', {200, 1, 2, 3}}, {'x', {0, 0, 0, 1}},
+    {'.', {WILZHORAM_CODE_TICK, 0, 0, 0}},
+    {'S', {WILZHORAM_CODE_STRIKE_IN, 0, 0, 0}},
+    {'P', {WILZHORAM_CODE_PASSAGE, 0, 0, 0}},
+    {'s', {WILZHORAM_CODE_STRIKE_IN, 1, 0, 0}},
+    {'?', {200, 1, 2, 3}},
+    {'x', {WILZHORAM_CODE_TICK, 0, 0, 1}},
 };
 
 static wilzhoram_event_bytes event_of(char letter) {
@@ -21,7 +25,7 @@ static wilzhoram_event_bytes event_of(char letter) {
     return letters[at].event;
 }
 
-/* A sheet of 2 + 4m bytes: the size, the codes, the triples. */
+/* A sheet: the size, the codes, the triples. */
 static size_t make(uint8_t *sheet, const char *shift) {
     size_t m = strlen(shift);
     uint8_t *triple = sheet + 2 + m;
@@ -34,7 +38,7 @@ static size_t make(uint8_t *sheet, const char *shift) {
         triple[1] = event.place;
         triple[2] = event.value;
     }
-    return 2 + 4 * m;
+    return WILZHORAM_SHEET_LENGTH(m);
 }
 
 static void tell(wilzhoram_agreement agreement) {
@@ -48,15 +52,15 @@ static void tell(wilzhoram_agreement agreement) {
 
 /* The last `torn` bytes of the hut's sheet are missing. */
 static void compare(const char *words, const char *hut, const char *cabin, size_t torn) {
-    static uint8_t ours[2 + 4 * MOST], theirs[2 + 4 * MOST];
+    static uint8_t ours[WILZHORAM_SHEET_LENGTH(MOST)], theirs[WILZHORAM_SHEET_LENGTH(MOST)];
     size_t length = make(ours, hut) - torn, other = make(theirs, cabin);
     printf("%s: ", words);
     tell(wilzhoram_agree(ours, length, theirs, other));
 }
 
 int main(void) {
-    static char ticks[258];
-    memset(ticks, '.', 257);
+    static char ticks[MOST + 1];
+    memset(ticks, '.', MOST);
     compare("SP.s and PS.s, another order", "SP.s", "PS.s", 0);
     compare("SP.s and S.Ps, a passage after the tick", "SP.s", "S.Ps", 0);
     compare("S.SSP and S.SPP, not as often", "S.SSP", "S.SPP", 0);

@@ -3,8 +3,10 @@
 
 int main(void) {
     /* Two crossings: two full booms on one track; four full booms on two tracks, track 1 of them dependent, M 90 (T-06). */
-    static const uint8_t book[] = {2, 3, 1, 0, 4, 2, 2, 2, 0, 0, 0, 0, 0, 30, 0, 18, 0, 90, 0};
-    const wilzhoram_event_bytes strike_in = {1, 0, 0, 0};
+    static const uint8_t book[] = {
+        2, WILZHORAM_KIND_TWO_FULL, 1, 0, WILZHORAM_KIND_FOUR_FULL, 2, 2, 2, 0, 0, 0, 0, 0, 30, 0, 18, 0, 90, 0,
+    };
+    const wilzhoram_event_bytes strike_in = {WILZHORAM_CODE_STRIKE_IN, 0, 0, 0};
     wilzhoram_reading site = wilzhoram_read(book, sizeof book);
     if (refused(site.number) || show(site.plant, WILZHORAM_SENDER_DETECTION))
         return 1;

@@ -2,14 +2,18 @@
 #ifndef BOUNDARY_H
 #define BOUNDARY_H
 
-#include "wilzhoram.h"
+#include "same.h"
 
-enum { BOOK_MOST = 1 + 9 * 8, SHEET_MOST = 2 + 4 * 4096, PANEL_MOST = 16 * 8, SPOILT = 15, UNKNOWN = 16, NUMBERS = 22 };
+enum {
+    BOOK_MOST = WILZHORAM_BOOK_LENGTH(WILZHORAM_MOST_CROSSINGS),
+    SHEET_MOST = WILZHORAM_SHEET_LENGTH(WILZHORAM_MOST_EVENTS),
+    PANEL_MOST = WILZHORAM_PANEL_LENGTH(WILZHORAM_MOST_CROSSINGS),
+    NUMBERS = WILZHORAM_NUMBER_BAD_GRADIENT + 1,
+};
 
 /* range.c: document 01, "Site book" and "What the plant holds"; document 02, T-01 and T-06. */
 unsigned settings_number(const wilzhoram_site *site); /* 0, 2 or 3 */
 bool in_range(const wilzhoram_plant *plant);
-bool same_plant(const wilzhoram_plant *a, const wilzhoram_plant *b); /* field by field */
 
 /* inputs.c: the same on every machine. */
 uint32_t below(uint32_t limit);
@@ -29,7 +33,7 @@ typedef struct {
     unsigned long met[NUMBERS];
 } tally;
 
-extern tally of_read, of_write, of_event, of_draw, of_preview, of_run, of_agree, of_board;
+extern tally of_version, of_read, of_write, of_event, of_draw, of_preview, of_run, of_agree, of_board;
 
 _Noreturn void fail(const char *format, ...);
 void answered(tally *call, unsigned number); /* fails on a number that the call may not answer */

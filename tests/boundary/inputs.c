@@ -22,14 +22,14 @@ size_t random_book(uint8_t *book, unsigned n) {
         first[0] = (uint8_t)(1 + below(6));
         first[1] = (uint8_t)(1 + below(4));
         first[2] = (uint8_t)below(1u << first[1]);
-        second[0] = first[0] == 6 ? 15 : (uint8_t)(1 + below(below(2) ? 3 : 180));
-        second[2] = first[0] == 4 ? (uint8_t)(1 + below(below(2) ? 3 : 90)) : 0;
+        second[0] = first[0] == WILZHORAM_KIND_OLD_HALF ? 15 : (uint8_t)(1 + below(below(2) ? 3 : 180));
+        second[2] = first[0] == WILZHORAM_KIND_FOUR_FULL ? (uint8_t)(1 + below(below(2) ? 3 : 90)) : 0;
         second[1] = second[3] = 0;
         uint32_t pause = below(2) ? 0 : below(below(2) ? 4 : 541);
         second[4] = (uint8_t)pause;
         second[5] = (uint8_t)(pause >> 8);
     }
-    return 1 + 9 * n;
+    return WILZHORAM_BOOK_LENGTH(n);
 }
 
 wilzhoram_plant random_fresh(unsigned n) {
@@ -55,9 +55,9 @@ wilzhoram_event_bytes random_event(unsigned n) {
 
 /* One that may send the code, whatever the value (document 02, T-04). */
 uint8_t who_may(uint8_t code) {
-    if (code == 4 || code == 7)
+    if (code == WILZHORAM_CODE_OPERATOR_HOLD || code == WILZHORAM_CODE_TIME_RELEASE)
         return WILZHORAM_SENDER_OPERATOR;
-    return code == 3 ? WILZHORAM_SENDER_KIOSK : WILZHORAM_SENDER_DETECTION;
+    return code == WILZHORAM_CODE_KIOSK_HOLD ? WILZHORAM_SENDER_KIOSK : WILZHORAM_SENDER_DETECTION;
 }
 
 /* Most of the time one that may send the code; in one of four any of the four senders, in one of sixteen any number. */
@@ -78,7 +78,7 @@ size_t random_sheet(uint8_t *sheet, unsigned events, unsigned n) {
         triples[1] = event.place;
         triples[2] = event.value;
     }
-    return 2 + 4 * (size_t)events;
+    return WILZHORAM_SHEET_LENGTH(events);
 }
 
 void change(wilzhoram_plant *plant) {

@@ -21,17 +21,21 @@ static void expect_run(const wilzhoram_plant *plant, const uint8_t *sheet, size_
         fail("run: number %u with a lent byte changed", run.number);
 }
 
-/* T-03, T-04: a tick, an unknown code, a passage with no train: the plant comes first, then the sender, then the frame, whatever the
- * event. */
+/* T-03, T-04: a tick, an unknown code, a passage with no train: the plant comes first, then the sender, then the frame,
+ * whatever the event. */
 static void previews(const wilzhoram_plant *plant, const wilzhoram_plant *spoilt) {
-    static const wilzhoram_event_bytes events[] = {{0, 0, 0, 0}, {10, 0, 0, 0}, {2, 0, 0, 0}};
+    static const wilzhoram_event_bytes events[] = {
+        {WILZHORAM_CODE_TICK, 0, 0, 0},
+        {10, 0, 0, 0},
+        {WILZHORAM_CODE_PASSAGE, 0, 0, 0},
+    };
     for (size_t i = 0; i < sizeof events / sizeof events[0]; i++) {
         wilzhoram_preview_result framed = wilzhoram_preview(*plant, 0, events[i], NULL, 0);
         wilzhoram_preview_result unknown = wilzhoram_preview(*plant, 4, events[i], NULL, 0);
         wilzhoram_preview_result refused = wilzhoram_preview(*spoilt, 4, events[i], NULL, 0);
-        expect("preview", framed.number, 14);
-        expect("preview", unknown.number, UNKNOWN);
-        expect("preview", refused.number, SPOILT);
+        expect("preview", framed.number, WILZHORAM_NUMBER_BAD_OUTPUT_LENGTH);
+        expect("preview", unknown.number, WILZHORAM_NUMBER_UNKNOWN_SENDER);
+        expect("preview", refused.number, WILZHORAM_NUMBER_OUT_OF_RANGE);
         if (framed.written != 0 || unknown.written != 0 || refused.written != 0)
             fail("preview: refused with a count");
     }
@@ -39,15 +43,15 @@ static void previews(const wilzhoram_plant *plant, const wilzhoram_plant *spoilt
 
 static void runs(const wilzhoram_plant *plant, const wilzhoram_plant *spoilt) {
     static const uint8_t whole[2], torn[2] = {1, 0}, long_sheet[2] = {1, 16}; /* sizes 0, 1 and 4,097 */
-    size_t panel = 16 * (size_t)plant->site.n;
-    expect_run(plant, NULL, 0, 0, 4);
-    expect_run(plant, NULL, 0, panel, 4);
-    expect_run(plant, whole, 2, 0, 14);
-    expect_run(plant, torn, 2, 0, 4);
-    expect_run(plant, long_sheet, 2, 0, 2);
-    expect_run(spoilt, NULL, 0, 0, SPOILT);
-    expect_run(spoilt, NULL, 0, panel, SPOILT);
-    expect_run(spoilt, whole, 2, 0, SPOILT);
+    size_t panel = WILZHORAM_PANEL_LENGTH(plant->site.n);
+    expect_run(plant, NULL, 0, 0, WILZHORAM_NUMBER_BAD_SHEET_LENGTH);
+    expect_run(plant, NULL, 0, panel, WILZHORAM_NUMBER_BAD_SHEET_LENGTH);
+    expect_run(plant, whole, 2, 0, WILZHORAM_NUMBER_BAD_OUTPUT_LENGTH);
+    expect_run(plant, torn, 2, 0, WILZHORAM_NUMBER_BAD_SHEET_LENGTH);
+    expect_run(plant, long_sheet, 2, 0, WILZHORAM_NUMBER_BAD_COUNT);
+    expect_run(spoilt, NULL, 0, 0, WILZHORAM_NUMBER_OUT_OF_RANGE);
+    expect_run(spoilt, NULL, 0, panel, WILZHORAM_NUMBER_OUT_OF_RANGE);
+    expect_run(spoilt, whole, 2, 0, WILZHORAM_NUMBER_OUT_OF_RANGE);
 }
 
 /* T-07: the hut's number comes first; with a length of 0 each is torn, 4. */
@@ -60,11 +64,11 @@ static void expect_agree(const uint8_t *hut, size_t hut_length, const uint8_t *c
 
 static void agreements(void) {
     static const uint8_t whole[2], long_sheet[2] = {1, 16};
-    expect_agree(NULL, 0, NULL, 0, 4);
-    expect_agree(whole, 2, NULL, 0, 4);
-    expect_agree(NULL, 0, whole, 2, 4);
-    expect_agree(NULL, 0, long_sheet, 2, 4);
-    expect_agree(long_sheet, 2, NULL, 0, 2);
+    expect_agree(NULL, 0, NULL, 0, WILZHORAM_NUMBER_BAD_SHEET_LENGTH);
+    expect_agree(whole, 2, NULL, 0, WILZHORAM_NUMBER_BAD_SHEET_LENGTH);
+    expect_agree(NULL, 0, whole, 2, WILZHORAM_NUMBER_BAD_SHEET_LENGTH);
+    expect_agree(NULL, 0, long_sheet, 2, WILZHORAM_NUMBER_BAD_SHEET_LENGTH);
+    expect_agree(long_sheet, 2, NULL, 0, WILZHORAM_NUMBER_BAD_COUNT);
 }
 
 int main(void) {
@@ -74,15 +78,15 @@ int main(void) {
     wilzhoram_reading reading = wilzhoram_read(NULL, 0);
     spoilt.beat = 4;
     wrong.entries[2].tracks = 5;
-    expect("read", reading.number, 1);
+    expect("read", reading.number, WILZHORAM_NUMBER_BAD_BOOK_LENGTH);
     if (!same_plant(&reading.plant, &zero))
         fail("read: number 1 with another plant than that of an all-zero site");
-    expect("write", wilzhoram_write(plant.site, NULL, 0), 14);
-    expect("write", wilzhoram_write(zero.site, NULL, 0), 2);
-    expect("write", wilzhoram_write(wrong, NULL, 0), 3);
-    expect("draw", wilzhoram_draw(plant, 3, NULL, 0), 14);
-    expect("draw", wilzhoram_draw(plant, 4, NULL, 0), UNKNOWN);
-    expect("draw", wilzhoram_draw(spoilt, 4, NULL, 0), SPOILT);
+    expect("write", wilzhoram_write(plant.site, NULL, 0), WILZHORAM_NUMBER_BAD_OUTPUT_LENGTH);
+    expect("write", wilzhoram_write(zero.site, NULL, 0), WILZHORAM_NUMBER_BAD_COUNT);
+    expect("write", wilzhoram_write(wrong, NULL, 0), WILZHORAM_NUMBER_BAD_SETTING);
+    expect("draw", wilzhoram_draw(plant, 3, NULL, 0), WILZHORAM_NUMBER_BAD_OUTPUT_LENGTH);
+    expect("draw", wilzhoram_draw(plant, 4, NULL, 0), WILZHORAM_NUMBER_UNKNOWN_SENDER);
+    expect("draw", wilzhoram_draw(spoilt, 4, NULL, 0), WILZHORAM_NUMBER_OUT_OF_RANGE);
     previews(&plant, &spoilt);
     runs(&plant, &spoilt);
     agreements();

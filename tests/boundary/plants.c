@@ -1,7 +1,8 @@
 /* Plants of any bytes, handed to every call that takes a plant or its settings. Half are random bytes throughout; half come
  * from a book by random events, with one to three bytes changed, so that plants in range are met as well. And plants with
- * every value of each unsure flag, and with ticks left about their limit. Each answer is compared with what document 01, amended by T-01, T-04 and T-06, gives; which number
- * of 5 to 8, 10 to 13 and 17 an event in range gets is left to ci/compare. */
+ * every value of each unsure flag, and with ticks left about their limit. Each answer is compared with what document 01,
+ * amended by T-01, T-04 and T-06, gives; which number of 5 to 8, 10 to 13 and 17 an event in range gets is left to
+ * ci/compare. */
 #include "boundary.h"
 #include <stdio.h>
 #include <string.h>
@@ -19,7 +20,7 @@ typedef struct {
 /* The inputs beside the plant, and the lent bytes before every call. */
 static wilzhoram_event_bytes event;
 static uint8_t sender;
-static uint8_t sheet[2 + 4 * EVENTS], before[EDGE + LENT + EDGE];
+static uint8_t sheet[WILZHORAM_SHEET_LENGTH(EVENTS)], before[EDGE + LENT + EDGE];
 static size_t sheet_length, lent_length;
 
 static size_t padding[sizeof(wilzhoram_plant)], paddings; /* the plant's bytes that no field has */
@@ -62,11 +63,13 @@ static void call_write(const wilzhoram_plant *plant, outcome *out) {
 
 /* T-04: the plant, then the sender. EVENTS_OWN: any number but 14 to 16. */
 static unsigned event_number(const wilzhoram_plant *plant) {
-    return !in_range(plant) ? SPOILT : sender > WILZHORAM_SENDER_CENTRE ? UNKNOWN : EVENTS_OWN;
+    if (!in_range(plant))
+        return WILZHORAM_NUMBER_OUT_OF_RANGE;
+    return sender > WILZHORAM_SENDER_CENTRE ? WILZHORAM_NUMBER_UNKNOWN_SENDER : EVENTS_OWN;
 }
 
 static unsigned frame_number(const wilzhoram_plant *plant) {
-    return lent_length == 16 * (size_t)plant->site.n ? 0 : 14;
+    return lent_length == WILZHORAM_PANEL_LENGTH(plant->site.n) ? 0 : WILZHORAM_NUMBER_BAD_OUTPUT_LENGTH;
 }
 
 static unsigned draw_number(const wilzhoram_plant *plant) {
@@ -82,17 +85,20 @@ static unsigned preview_number(const wilzhoram_plant *plant) {
 
 static unsigned run_number(const wilzhoram_plant *plant) {
     if (!in_range(plant))
-        return SPOILT;
+        return WILZHORAM_NUMBER_OUT_OF_RANGE;
     if (sheet_length < 2)
-        return 4;
-    if (sheet_size() > 4096)
-        return 2;
-    return sheet_length == 2 + 4 * sheet_size() ? frame_number(plant) : 4;
+        return WILZHORAM_NUMBER_BAD_SHEET_LENGTH;
+    if (sheet_size() > WILZHORAM_MOST_EVENTS)
+        return WILZHORAM_NUMBER_BAD_COUNT;
+    bool whole = sheet_length == WILZHORAM_SHEET_LENGTH(sheet_size());
+    return whole ? frame_number(plant) : WILZHORAM_NUMBER_BAD_SHEET_LENGTH;
 }
 
 static unsigned write_number(const wilzhoram_plant *plant) {
     unsigned number = settings_number(&plant->site);
-    return number != 0 ? number : lent_length == 1 + 9 * (size_t)plant->site.n ? 0 : 14;
+    if (number != 0)
+        return number;
+    return lent_length == WILZHORAM_BOOK_LENGTH(plant->site.n) ? 0 : WILZHORAM_NUMBER_BAD_OUTPUT_LENGTH;
 }
 
 typedef struct {
@@ -117,7 +123,7 @@ _Noreturn static void wrong(const trial *t, const wilzhoram_plant *plant, unsign
 
 static void check_number(const trial *t, const wilzhoram_plant *plant, unsigned number, unsigned wanted) {
     char words[32];
-    if (wanted == EVENTS_OWN && 14 <= number && number <= UNKNOWN)
+    if (wanted == EVENTS_OWN && WILZHORAM_NUMBER_BAD_OUTPUT_LENGTH <= number && number <= WILZHORAM_NUMBER_UNKNOWN_SENDER)
         wrong(t, plant, number, "but plant, sender and frame are right");
     if (wanted == EVENTS_OWN || number == wanted)
         return;
@@ -175,16 +181,16 @@ static void choose_inputs(const wilzhoram_plant *plant, size_t right) {
 
 static void try_all(const wilzhoram_plant *plant) {
     wilzhoram_plant after;
-    choose_inputs(plant, 16 * (size_t)plant->site.n);
+    choose_inputs(plant, WILZHORAM_PANEL_LENGTH(plant->site.n));
     try_call(&event_trial, plant, &after);
     try_call(&draw_trial, plant, &after);
     try_call(&preview_trial, plant, &after);
     try_call(&run_trial, plant, &after);
-    choose_inputs(plant, 1 + 9 * (size_t)plant->site.n);
+    choose_inputs(plant, WILZHORAM_BOOK_LENGTH(plant->site.n));
     try_call(&write_trial, plant, &after);
 }
 
-/* The bytes whose change leaves the plant the same; 394 bytes are the fields'. */
+/* The bytes whose change leaves the plant the same: no others, as same.c shows. */
 static void find_padding(void) {
     static const wilzhoram_plant zero;
     for (size_t i = 0; i < sizeof zero; i++) {
@@ -193,8 +199,6 @@ static void find_padding(void) {
         if (same_plant(&plant, &zero))
             padding[paddings++] = i;
     }
-    if (sizeof zero - paddings != 2 + 8 * 9 + 8 * 42)
-        fail("the fields of a plant are %zu bytes, 410 expected", sizeof zero - paddings);
 }
 
 /* T-01: every value of the unsure flag of each track in each record, in fresh plants of every size. In range: 0, and 1 on a
@@ -216,20 +220,21 @@ static unsigned try_unsure(void) {
     return tried;
 }
 
-/* T-06: ticks left about M of each record, open and all ordered down, in fresh plants of every size. In range: up to M at an open
- * crossing, otherwise 0. */
+/* T-06: ticks left about M of each record, open and all ordered down, in fresh plants of every size. In range: up to M at an
+ * open crossing, otherwise 0. */
 static unsigned try_left(void) {
     unsigned tried = 0;
     for (unsigned n = 1; n <= 8; n++) {
         wilzhoram_plant fresh = random_fresh(n);
         for (unsigned at = 0; at < 8 * 2 * 5; at++, tried++) {
-            unsigned i = at / 10, pause = fresh.site.entries[i].pause, phase = at % 2 ? 3 : 0;
+            unsigned i = at / 10, pause = fresh.site.entries[i].pause;
             unsigned values[5] = {0, 1, pause, pause + 1, 256 + pause}, value = values[at / 2 % 5];
+            bool open = at % 2 == 0;
             wilzhoram_plant plant = fresh;
-            plant.crossings[i].phase = (uint8_t)phase;
+            plant.crossings[i].phase = open ? WILZHORAM_PHASE_OPEN : WILZHORAM_PHASE_ALL_DOWN;
             plant.crossings[i].left = (uint16_t)value;
-            if (in_range(&plant) != (i < n ? value <= (phase == 0 ? pause : 0) : phase == 0 && value == 0))
-                fail("range.c: %u ticks left in phase %u of record %u of %u, M %u", value, phase, i, n, pause);
+            if (in_range(&plant) != (i < n ? value <= (open ? pause : 0) : open && value == 0))
+                fail("range.c: %u ticks left in record %u of %u, %s, M %u", value, i, n, open ? "open" : "all down", pause);
             try_all(&plant);
         }
     }
@@ -246,7 +251,7 @@ int main(void) {
         try_all(&changed);
         if (i % LIFE == 0)
             live = random_fresh(1 + below(8));
-        choose_inputs(&live, 16 * (size_t)live.site.n);
+        choose_inputs(&live, WILZHORAM_PANEL_LENGTH(live.site.n));
         try_call(&run_trial, &live, &live);
         changed = live;
         change(&changed);

@@ -11,6 +11,7 @@ static size_t book_lengths[BOOKS], sheet_lengths[SHEETS], shift_lengths[SHIFTS];
 unsigned met;
 
 typedef struct {
+    uint32_t (*version)(void);
     wilzhoram_reading (*read)(const uint8_t *, size_t);
     uint8_t (*write)(wilzhoram_site, uint8_t *, size_t);
     wilzhoram_answer (*event)(wilzhoram_plant, uint8_t, wilzhoram_event_bytes);
@@ -20,6 +21,10 @@ typedef struct {
     wilzhoram_agreement (*agree)(const uint8_t *, size_t, const uint8_t *, size_t);
     wilzhoram_distance (*board_distance)(uint16_t, uint16_t, int16_t);
 } engine;
+
+static uint32_t idle_version(void) {
+    return WILZHORAM_VERSION;
+}
 
 static wilzhoram_reading idle_read(const uint8_t *book, size_t length) {
     wilzhoram_reading reading;
@@ -63,14 +68,19 @@ static wilzhoram_distance idle_board_distance(uint16_t speed, uint16_t retardati
     return distance;
 }
 
-static const engine idle_engine = {idle_read,    idle_write, idle_event, idle_draw,
-                                   idle_preview, idle_run,   idle_agree, idle_board_distance};
-static const engine real_engine = {wilzhoram_read,    wilzhoram_write, wilzhoram_event, wilzhoram_draw,
-                                   wilzhoram_preview, wilzhoram_run,   wilzhoram_agree, wilzhoram_board_distance};
+static const engine idle_engine = {idle_version, idle_read, idle_write, idle_event,         idle_draw,
+                                   idle_preview, idle_run,  idle_agree, idle_board_distance};
+static const engine real_engine = {wilzhoram_version, wilzhoram_read, wilzhoram_write, wilzhoram_event,         wilzhoram_draw,
+                                   wilzhoram_preview, wilzhoram_run,  wilzhoram_agree, wilzhoram_board_distance};
 static const engine *volatile now; /* volatile: the compiler makes one code for both */
 
 void use_engine(bool real) {
     now = real ? &real_engine : &idle_engine;
+}
+
+/* Number 0 for the header's own. */
+static void play_version(void) {
+    met |= 1u << (now->version() != WILZHORAM_VERSION);
 }
 
 static void play_read(void) {
@@ -109,7 +119,7 @@ static void play_draw(void) {
 /* Each event with a right frame, and every frame with an event. */
 static void preview_for(const wilzhoram_plant *plant, uint8_t sender) {
     for (unsigned at = 0; at < EVENTS; at++)
-        met |= 1u << (now->preview(*plant, sender, EVENT(at), lent, 16 * (size_t)(plant->site.n % 9)).number & 31);
+        met |= 1u << (now->preview(*plant, sender, EVENT(at), lent, WILZHORAM_PANEL_LENGTH(plant->site.n % 9)).number & 31);
     for (size_t length = 0; length <= PANEL_MOST; length++)
         met |= 1u << (now->preview(*plant, sender, EVENT(length), lent, length).number & 31);
 }
@@ -123,7 +133,7 @@ static void play_preview(void) {
 static void play_run(void) {
     for (int i = 0; i < PLANTS; i++)
         for (int k = 0; k < SHEETS; k++)
-            for (size_t length = 0; length <= PANEL_MOST; length += 16)
+            for (size_t length = 0; length <= PANEL_MOST; length += WILZHORAM_PANEL_LENGTH(1))
                 met |= 1u << (now->run(plants[i], sheets[k], sheet_lengths[k], lent, length).number & 31);
 }
 
@@ -146,6 +156,7 @@ static void play_board_distance(void) {
 #define PLANT UP(sizeof(wilzhoram_plant))
 
 const measured calls[CALLS] = {
+    {&of_version, play_version, 0, WILZHORAM_STACK_VERSION},
     {&of_read, play_read, UP(sizeof(wilzhoram_reading)), WILZHORAM_STACK_READ},
     {&of_write, play_write, UP(sizeof(wilzhoram_site)), WILZHORAM_STACK_WRITE},
     {&of_event, play_event, UP(sizeof(wilzhoram_answer)) + PLANT, WILZHORAM_STACK_EVENT},
@@ -164,7 +175,7 @@ static void make_plants(void) {
         unsigned n = 1 + (unsigned)i % 8;
         wilzhoram_plant fresh = random_fresh(n);
         size_t length = random_sheet(sheet, below(600), n);
-        plants[i] = wilzhoram_run(fresh, sheet, length, lent, 16 * n).plant;
+        plants[i] = wilzhoram_run(fresh, sheet, length, lent, WILZHORAM_PANEL_LENGTH(n)).plant;
         switch (i / 8 % 8) {
         case 0: change(&plants[i]); break;
         case 1: plants[i].site.n = 0; break;

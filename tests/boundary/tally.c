@@ -5,6 +5,7 @@
 #include <stdio.h>
 #include <stdlib.h>
 
+tally of_version = {"version", 1u, {0}};
 tally of_read = {"read", 1u | 1u << 1 | 1u << 2 | 1u << 3, {0}};
 tally of_write = {"write", 1u | 1u << 2 | 1u << 3 | 1u << 14, {0}};
 tally of_event = {"event", 1u | 0xfu << 5 | 0xfu << 10 | 7u << 15, {0}}; /* 5 to 8, 10 to 13 and 15 to 17 */
@@ -41,10 +42,10 @@ void print_tally(const tally *call) {
     unsigned numbers = 0;
     for (unsigned number = 0; number < NUMBERS; number++) {
         numbers |= (call->met[number] != 0) << number;
-        other += number == 0 || number == SPOILT ? 0 : call->met[number];
+        other += number == 0 || number == WILZHORAM_NUMBER_OUT_OF_RANGE ? 0 : call->met[number];
     }
     printf("; %s %lu taken, %lu refused", call->name, call->met[0], other);
-    if (call->may >> SPOILT & 1)
-        printf(", %lu refused 15", call->met[SPOILT]);
+    if (call->may >> WILZHORAM_NUMBER_OUT_OF_RANGE & 1)
+        printf(", %lu refused 15", call->met[WILZHORAM_NUMBER_OUT_OF_RANGE]);
     all_met(call, numbers);
 }

@@ -1,4 +1,5 @@
 // What a signal shows (document 01, "Panel").
+use machine::aspects;
 ghost use mathlib.Core.Bool.{cond};
 ghost use mathlib.Core.Path.{_≡_};
 ghost use lib.Dec.{eqb};
@@ -32,7 +33,7 @@ pub fn control(white: bool, lamp: bool) -> u8
     if white {
         return 2;
     }
-    bits::value(lamp, 3)
+    bits::value(lamp, aspects::AMBER)
 }
 
 // White with a passable signal, else violet; under the 1959 sheet as the train signal (document 02, T-09).

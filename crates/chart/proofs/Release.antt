@@ -14,9 +14,9 @@ use Rattle.machine.specs.Events.{Command, is-known, entitled, place-limit, valu
 use Rattle.machine.specs.Effects.{calling-after, waiting-after, unsure-after, cancels, act, overlong, phase-ticked, timer-ticked, tick, written-at}
 use Rattle.machine.specs.Settling.{phase-settled, timer-settled, left-settled, out-settled, settle}
 use Rattle.machine.specs.Step.{touch, apply, written, step, after, carried}
-use Rattle.machine.specs.Panel.{road, shows-white, signal, distant, lit-at, rhythm, is-lit, lit, bell, boom-lamps, right-down, left-down, released, releases-shown, status, holds, row, panel}
+use Rattle.machine.specs.Panel.{road, shows-white, signal, distant, lit-at, road-rhythm, boom-rhythm, train-rhythm, is-lit, lit, bell, boom-lamps, right-down, left-down, released, releases-shown, status, holds, row, panel}
 use Rattle.machine.specs.SiteBook.{book-entry, book-site, read-number, read}
-use Rattle.chart.proofs.Words.{a-tick, site, shown, release}
+use Rattle.chart.specs.Words.{a-tick, site, shown, release}
 
 -- the plant after a list and the trains that the answers carry, together
 pub record Played : Type 0 where
@@ -81,7 +81,7 @@ record Computed : Type 0 where
   pub phase : getD (panel (ended .plant)) 10 0 ≡ 0
 
 computed : Computed
-unfolding fresh-plant dependent reason booms-up booms-down booms-closed normal secured entry-in entry-zero track-in phase-in crossing-in crossing-zero place-in in-range is-known entitled place-limit value-limit refusal number calling-after waiting-after unsure-after cancels act overlong phase-ticked timer-ticked tick written-at phase-settled timer-settled left-settled out-settled settle touch apply written step after carried road shows-white signal distant lit-at rhythm is-lit lit bell boom-lamps right-down left-down released releases-shown status holds row panel book-entry book-site read-number read played
+unfolding fresh-plant dependent reason booms-up booms-down booms-closed normal secured entry-in entry-zero track-in phase-in crossing-in crossing-zero place-in in-range is-known entitled place-limit value-limit refusal number calling-after waiting-after unsure-after cancels act overlong phase-ticked timer-ticked tick written-at phase-settled timer-settled left-settled out-settled settle touch apply written step after carried road shows-white signal distant lit-at road-rhythm boom-rhythm train-rhythm is-lit lit bell boom-lamps right-down left-down released releases-shown status holds row panel book-entry book-site read-number read played
 computed = record { ticks = refl; carries = refl; phase = refl }
 
 ticks-270 : played lights 0 (release 270) ≡ ended

@@ -1,6 +1,7 @@
 // What one crossing holds is in its range (document 01, "What the plant holds").
 use machine::Crossing;
 use machine::Entry;
+use machine::kinds;
 use machine::reports;
 ghost use mathlib.Core.Path.{_≡_};
 ghost use Rattle.machine.specs.Common.{all-below};
@@ -28,7 +29,7 @@ fn booms_in(s: Entry, c: Crossing) -> bool
 fn lamps_in(s: Entry, c: Crossing) -> bool
     ensures { λ r. ⌜ r ≡ all-below 7 (lamp-in s c) ⌝ }
 {
-    let boom = kind::old_booms(s.kind) as u8;
+    let boom = kinds::old_booms(s.kind) as u8;
     (c.lamps[0] <= 1)
         & (c.lamps[1] <= 1)
         & (c.lamps[2] <= 1)

@@ -3,7 +3,7 @@
 use machine::Entry;
 use machine::kinds;
 ghost use mathlib.Core.Path.{_≡_};
-ghost use Rattle.machine.specs.Kinds.{lights-only, half-booms, four-booms, old-sheet, old-booms, boom-count, lamp-count};
+ghost use Rattle.machine.specs.Kinds.{lights-only, half-booms, four-booms, old-sheet, boom-count, lamp-count};
 ghost use Rattle.machine.specs.Plant.{dependent};
 
 // Track t depends on a route: bit t of the mask.
@@ -41,13 +41,6 @@ pub fn old_sheet(kind: u8) -> bool
     (kind == kinds::OLD_LIGHTS) | (kind == kinds::OLD_HALF)
 }
 
-// Booms under the 1959 sheet (document 02, T-09).
-pub fn old_booms(kind: u8) -> bool
-    ensures { λ r. ⌜ r ≡ old-booms kind ⌝ }
-{
-    kind == kinds::OLD_HALF
-}
-
 // The booms that a kind has.
 pub fn boom_count(kind: u8) -> u8
     ensures { λ r. ⌜ r ≡ boom-count kind ⌝ }
@@ -62,5 +55,5 @@ pub fn boom_count(kind: u8) -> u8
 pub fn lamp_count(kind: u8) -> u8
     ensures { λ r. ⌜ r ≡ lamp-count kind ⌝ }
 {
-    if old_booms(kind) { 7 } else { 5 }
+    if kinds::old_booms(kind) { 7 } else { 5 }
 }

@@ -49,21 +49,39 @@ lit-at Slow beat = eqb beat 0
 lit-at Fast beat = eqb beat 0 || eqb beat 2
 lit-at Steady beat = true
 
--- which rhythm a signal has, by what it shows: slow for road white and for stop and violet in normal position, each of them 1; steady for amber
--- (T-09); fast for all else; flasher dead: steady (T-05). `still` is normal position: the road shows white in no other, and boom lamps are off in it
-unfoldable pub rhythm : Bool → Bool → ℕ → Rhythm
-rhythm flasher still shown = cond (flasher && not (eqb shown amber)) (cond (still && eqb shown 1) Slow Fast) Steady
+-- Which rhythm a signal has: slow, road white, stop and violet in normal position; fast, all else; steady, the flasher dead (T-05), and by
+-- themselves amber and boom lamps of the 1959 sheet (T-09)
+-- flasher dead: steady
+abbrev pub flashing : Bool → Rhythm → Rhythm
+flashing flasher rhythm = cond flasher rhythm Steady
+
+-- slow in normal position, else fast
+abbrev pub by-position : Bool → Bool → Rhythm
+by-position flasher still = flashing flasher (cond still Slow Fast)
+
+-- road: slow when white
+unfoldable pub road-rhythm : Entry → Crossing → Rhythm
+road-rhythm s c = flashing (lamp c 4) (cond (eqb (road s c) 1) Slow Fast)
+
+-- boom lamps: fast; steady under the 1959 sheet (T-09)
+unfoldable pub boom-rhythm : Entry → Crossing → Rhythm
+boom-rhythm s c = cond (old-sheet (s .kind)) Steady (flashing (lamp c 4) Fast)
+
+-- train signal and distant, by what it shows: slow in normal position; amber steady (T-09)
+unfoldable pub train-rhythm : Entry → Crossing → ℕ → Rhythm
+train-rhythm s c shown = cond (eqb shown amber) Steady (by-position (lamp c 4) (normal s c))
 
 -- a signal is lit in this beat; a dark one is not
-unfoldable pub is-lit : ℕ → Bool → Bool → ℕ → Bool
-is-lit beat flasher still shown = ltb 0 shown && lit-at (rhythm flasher still shown) beat
+unfoldable pub is-lit : ℕ → Rhythm → ℕ → Bool
+is-lit beat rhythm shown = ltb 0 shown && lit-at rhythm beat
 
--- byte 1, lit in this beat: bits 1 road, 2 boom lamps, which under the 1959 sheet no flasher moves (T-09), 4 train signal, 8 distant
+-- byte 1, lit in this beat: bits 1 road, 2 boom lamps, 4 train signal, 8 distant
 unfoldable pub lit : ℕ → Entry → Crossing → ℕ
 lit beat s c =
-    let on = is-lit beat (lamp c 4) (normal s c) in
-    let booms-on = is-lit beat (lamp c 4 && not (old-sheet (s .kind))) (normal s c) in
-    bit (on (road s c)) 1 + bit (booms-on (boom-lamps s c)) 2 + bit (on (signal s c)) 4 + bit (on (distant s c)) 8
+    bit (is-lit beat (road-rhythm s c) (road s c)) 1
+    + bit (is-lit beat (boom-rhythm s c) (boom-lamps s c)) 2
+    + bit (is-lit beat (train-rhythm s c (signal s c)) (signal s c)) 4
+    + bit (is-lit beat (train-rhythm s c (distant s c)) (distant s c)) 8
 
 -- byte 2, bell: 1 out of normal, unless there are booms and all are reported down
 unfoldable pub bell : Entry → Crossing → ℕ

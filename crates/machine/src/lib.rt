@@ -1,5 +1,6 @@
 // The types of the crossing engine (document 01, "What the plant holds") and the fresh plant.
 // What each event does and what each panel byte shows is defined in specs/.
+pub mod aspects;
 pub mod kinds;
 pub mod numbers;
 pub mod reports;
@@ -155,7 +156,7 @@ impl Crossing {
         ensures { λ r. ⌜ r ≡ fresh-crossing (bit used (lamp-count kind)) ⌝ }
     {
         let whole = used as u8;
-        let boom = (used & (kind == kinds::OLD_HALF)) as u8;
+        let boom = (used & kinds::old_booms(kind)) as u8;
         Crossing {
             calling: [0; 4],
             waiting: [0; 4],

@@ -1,17 +1,22 @@
--- Kinds 5 and 6, under the 1959 sheet (T-09): what a crossing shows, takes and releases, line by line. A line is about one record of the
--- plant, whatever list led to it; demand 3 (crates/demand) speaks of the lists.
+-- Kinds 5 and 6, under the 1959 sheet (T-09): what a crossing shows, takes and releases, line by line, computed at every beat. A line is about one
+-- record in range, whatever list led to it; Laws speaks of every record, demand 3 (crates/demand) of the lists.
 use mathlib.Core.Path.{_≡_}
+use mathlib.Core.Bool.{true, not, _&&_}
 use mathlib.Core.List.{List, [], _∷_}
 use Prim.Native.Nat.{ℕ}
+use lib.Dec.{eqb}
 use lib.ListN.{getD}
+use Rattle.machine.specs.Common.{bit}
+use Rattle.machine.specs.Reports.{down}
 use Rattle.machine.specs.declared.Entry.{Entry}
 use Rattle.machine.specs.declared.Crossing.{Crossing}
-use Rattle.machine.specs.declared.Event.{Event}
+use Rattle.machine.specs.Plant.{lights-only}
+use Rattle.machine.specs.Range.{entry-in, crossing-in}
 use Rattle.machine.specs.Events.{listed, number}
 use Rattle.machine.specs.Effects.{written-at}
-use Rattle.machine.specs.Step.{touch}
 use Rattle.machine.specs.Panel.{row}
 use Rattle.machine.specs.SiteBook.{read}
+use Rattle.old_sheet.specs.Laws.{a-tick, ticked, Laws}
 
 -- Records ----------------------------------------------------------------------------------------------------------------------------
 -- one crossing of a kind, F 15; its one track depends on a route
@@ -29,8 +34,8 @@ whole = lamps 1 1 1 1 1 1
 abbrev pub whole-5 : List ℕ
 whole-5 = lamps 1 1 1 1 0 0
 
--- the record: a train calls with its route set, the track is unsure; the approach, the holds, the countdown, the phase, ticks out of normal, the
--- reports of booms 0 and 1, the lamps
+-- the record: a train calls with its route set, the track is unsure; the approach, the holds, the countdown, the phase, in phase 1 with one tick to
+-- come, ticks out of normal, the reports of booms 0 and 1, the lamps
 abbrev pub record-of : ℕ → ℕ → ℕ → ℕ → ℕ → ℕ → ℕ → ℕ → List ℕ → Crossing
 record-of occupied kiosk operator countdown phase out boom-0 boom-1 lamps = record {
   calling = 1 ∷ 0 ∷ 0 ∷ 0 ∷ [];
@@ -44,10 +49,14 @@ record-of occupied kiosk operator countdown phase out boom-0 boom-1 lamps = reco
   operator = operator;
   countdown = countdown;
   phase = phase;
-  timer = 0;
+  timer = bit (eqb phase 1) 1;
   left = 0;
   out = out;
 }
+
+-- it and its settings are in range: no number 15
+abbrev pub Held : ℕ → Crossing → Type 0
+Held kind c = (entry-in (site kind) && crossing-in (site kind) c) ≡ true
 
 -- The panel ------------------------------------------------------------------------------------------------------------------------
 -- a record by phase, booms and lamps
@@ -62,16 +71,15 @@ shows kind c = let r = row 0 (site kind) c in getD r 0 0 ∷ getD r 3 0 ∷ getD
 abbrev pub lits : ℕ → Crossing → List ℕ
 lits kind c = getD (row 0 (site kind) c) 1 0 ∷ getD (row 1 (site kind) c) 1 0 ∷ getD (row 2 (site kind) c) 1 0 ∷ getD (row 3 (site kind) c) 1 0 ∷ []
 
--- a line: what is shown, and lit at each beat
+-- a line: a record in range, what is shown, and lit at each beat
 abbrev pub Line : ℕ → Crossing → List ℕ → List ℕ → Type 0
-Line kind c bytes beats = (shows kind c ≡ bytes) × (lits kind c ≡ beats)
+Line kind c bytes beats = Held kind c × (shows kind c ≡ bytes) × (lits kind c ≡ beats)
 
--- lights only: nothing in normal position; white in phases 1 and 3, with the road red and lamp 3 whole, and at no other time
+-- lights only: nothing in normal position; white in phases 1 and 3 with the road red and lamp 3 whole (in no other phase: Laws, signal)
 pub record Lights : Type 0 where
   pub normal : Line 5 (at 0 0 0 whole-5) (0 ∷ 0 ∷ 0 ∷ 0 ∷ 0 ∷ 1 ∷ []) (0 ∷ 0 ∷ 0 ∷ 0 ∷ [])
   pub warning : Line 5 (at 1 0 0 whole-5) (2 ∷ 0 ∷ 2 ∷ 2 ∷ 0 ∷ 0 ∷ []) (13 ∷ 0 ∷ 13 ∷ 0 ∷ [])
   pub closed : Line 5 (at 3 0 0 whole-5) (2 ∷ 0 ∷ 2 ∷ 2 ∷ 1 ∷ 2 ∷ []) (13 ∷ 0 ∷ 13 ∷ 0 ∷ [])
-  pub phase-2 : Line 5 (at 2 0 0 whole-5) (2 ∷ 0 ∷ 0 ∷ 0 ∷ 0 ∷ 0 ∷ []) (1 ∷ 0 ∷ 1 ∷ 0 ∷ [])
   pub white-dead : Line 5 (at 1 0 0 (lamps 1 1 0 1 0 0)) (2 ∷ 0 ∷ 0 ∷ 0 ∷ 0 ∷ 0 ∷ []) (1 ∷ 0 ∷ 1 ∷ 0 ∷ [])
   pub red-dead : Line 5 (at 3 0 0 (lamps 0 1 1 1 0 0)) (0 ∷ 0 ∷ 0 ∷ 0 ∷ 0 ∷ 0 ∷ []) (0 ∷ 0 ∷ 0 ∷ 0 ∷ [])
   pub flasher-dead : Line 5 (at 1 0 0 (lamps 1 1 1 0 0 0)) (2 ∷ 0 ∷ 2 ∷ 2 ∷ 0 ∷ 0 ∷ []) (13 ∷ 13 ∷ 13 ∷ 13 ∷ [])
@@ -94,28 +102,33 @@ pub record Booms : Type 0 where
   pub not-raised : Line 6 (at 0 0 1 whole) (2 ∷ 1 ∷ 3 ∷ 3 ∷ 0 ∷ 0 ∷ []) (15 ∷ 14 ∷ 15 ∷ 14 ∷ [])
 
 -- The release ----------------------------------------------------------------------------------------------------------------------
--- a record out of normal, in phase 3, by approach, holds, countdown and ticks out of normal
-abbrev pub out-of-normal : ℕ → ℕ → ℕ → ℕ → ℕ → Crossing
-out-of-normal occupied kiosk operator countdown out = record-of occupied kiosk operator countdown 3 out 2 2 whole-5
+-- a record out of normal, in phase 3, the booms that the kind has down, by approach, holds, countdown, ticks out of normal, and kind
+abbrev pub out-of-normal : ℕ → ℕ → ℕ → ℕ → ℕ → ℕ → Crossing
+out-of-normal occupied kiosk operator countdown out kind =
+    let boom = bit (not (lights-only kind)) down in
+    record-of occupied kiosk operator countdown 3 out boom boom whole-5
 
 -- a tick: the train that it writes off; then calling, unsure, countdown and ticks out of normal
-abbrev pub ticked : ℕ → Crossing → List ℕ
-ticked kind c =
-    let tick : Event = record { code = 0; crossing = 0; place = 0; value = 0 } in
-    let d = touch (site kind) 0 c tick in
-    written-at (site kind) 0 c tick ∷ getD (d .calling) 0 0 ∷ getD (d .unsure) 0 0 ∷ d .countdown ∷ d .out ∷ []
+abbrev pub after-tick : ℕ → Crossing → List ℕ
+after-tick kind c =
+    let d = ticked (site kind) 0 c in
+    written-at (site kind) 0 c a-tick ∷ getD (d .calling) 0 0 ∷ getD (d .unsure) 0 0 ∷ d .countdown ∷ d .out ∷ []
+
+-- a line: a record in range, by the kind, and what a tick makes of it
+abbrev pub Tick-line : ℕ → (ℕ → Crossing) → List ℕ → Type 0
+Tick-line kind c numbers = Held kind (c kind) × (after-tick kind (c kind) ≡ numbers)
 
 -- from 1,079 ticks on, with no hold on and the approach free; a set route does not hinder it, a running countdown ends with it
 pub record Release : Type 0 where
-  pub short : ticked 5 (out-of-normal 0 0 0 9 1078) ≡ 0 ∷ 1 ∷ 1 ∷ 8 ∷ 1079 ∷ []
-  pub due : ticked 5 (out-of-normal 0 0 0 9 1079) ≡ 1 ∷ 0 ∷ 0 ∷ 0 ∷ 0 ∷ []
-  pub booms : ticked 6 (out-of-normal 0 0 0 9 1079) ≡ 1 ∷ 0 ∷ 0 ∷ 0 ∷ 1080 ∷ []
-  pub later : ticked 6 (out-of-normal 0 0 0 0 1080) ≡ 1 ∷ 0 ∷ 0 ∷ 0 ∷ 1080 ∷ []
-  pub kiosk : ticked 5 (out-of-normal 0 1 0 0 1080) ≡ 0 ∷ 1 ∷ 1 ∷ 0 ∷ 1080 ∷ []
-  pub operator : ticked 5 (out-of-normal 0 0 1 0 1080) ≡ 0 ∷ 1 ∷ 1 ∷ 0 ∷ 1080 ∷ []
-  pub approach : ticked 5 (out-of-normal 1 0 0 0 1080) ≡ 0 ∷ 1 ∷ 1 ∷ 0 ∷ 1080 ∷ []
-  pub chapter-9 : ticked 1 (out-of-normal 0 0 0 9 1079) ≡ 0 ∷ 1 ∷ 1 ∷ 8 ∷ 1080 ∷ []
-  pub half-booms : ticked 2 (out-of-normal 0 0 0 9 1080) ≡ 0 ∷ 1 ∷ 1 ∷ 8 ∷ 1080 ∷ []
+  pub short : Tick-line 5 (out-of-normal 0 0 0 9 1078) (0 ∷ 1 ∷ 1 ∷ 8 ∷ 1079 ∷ [])
+  pub due : Tick-line 5 (out-of-normal 0 0 0 9 1079) (1 ∷ 0 ∷ 0 ∷ 0 ∷ 0 ∷ [])
+  pub booms : Tick-line 6 (out-of-normal 0 0 0 9 1079) (1 ∷ 0 ∷ 0 ∷ 0 ∷ 1080 ∷ [])
+  pub later : Tick-line 6 (out-of-normal 0 0 0 0 1080) (1 ∷ 0 ∷ 0 ∷ 0 ∷ 1080 ∷ [])
+  pub kiosk : Tick-line 5 (out-of-normal 0 1 0 0 1080) (0 ∷ 1 ∷ 1 ∷ 0 ∷ 1080 ∷ [])
+  pub operator : Tick-line 5 (out-of-normal 0 0 1 0 1080) (0 ∷ 1 ∷ 1 ∷ 0 ∷ 1080 ∷ [])
+  pub approach : Tick-line 5 (out-of-normal 1 0 0 0 1080) (0 ∷ 1 ∷ 1 ∷ 0 ∷ 1080 ∷ [])
+  pub chapter-9 : Tick-line 1 (out-of-normal 0 0 0 9 1079) (0 ∷ 1 ∷ 1 ∷ 8 ∷ 1080 ∷ [])
+  pub half-booms : Tick-line 2 (out-of-normal 0 0 0 9 1080) (0 ∷ 1 ∷ 1 ∷ 8 ∷ 1080 ∷ [])
 
 -- Settings and lamps ---------------------------------------------------------------------------------------------------------------
 -- a book of one crossing by kind and F
@@ -133,9 +146,10 @@ pub record Settings : Type 0 where
   pub lamps-6 : lamp-report 6 5 ∷ lamp-report 6 6 ∷ lamp-report 6 7 ∷ [] ≡ 0 ∷ 0 ∷ 7 ∷ []
   pub lamps-else : lamp-report 5 4 ∷ lamp-report 5 5 ∷ lamp-report 2 5 ∷ lamp-report 2 6 ∷ [] ≡ 0 ∷ 7 ∷ 7 ∷ 7 ∷ []
 
--- the table
+-- the table and the laws
 pub record Old-sheet : Type 0 where
   pub lights : Lights
   pub booms : Booms
   pub release : Release
   pub settings : Settings
+  pub laws : Laws

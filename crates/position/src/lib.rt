@@ -1,6 +1,7 @@
 // Normal position and secured (document 01, "What the plant holds").
 use machine::Crossing;
 use machine::Entry;
+use machine::kinds;
 ghost use mathlib.Core.Path.{_≡_};
 ghost use Rattle.machine.specs.Plant.{boom-lamps-whole, lamp, normal, secured};
 
@@ -16,7 +17,7 @@ pub fn is_normal(s: Entry, c: Crossing) -> bool
 fn boom_lamps_whole(s: Entry, c: Crossing) -> bool
     ensures { λ r. ⌜ r ≡ boom-lamps-whole (s .kind) (lamp c) ⌝ }
 {
-    !kind::old_booms(s.kind) | ((c.lamps[5] == 1) & (c.lamps[6] == 1))
+    !kinds::old_booms(s.kind) | ((c.lamps[5] == 1) & (c.lamps[6] == 1))
 }
 
 // Secured: all ordered down, the road's red whole, and the booms as the kind demands, their lamps too.

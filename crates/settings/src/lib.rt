@@ -1,5 +1,6 @@
 // The settings of a site: what number 3 asks of an entry, and number 2 of the count. No function has a `requires`.
 use machine::Entry;
+use machine::kinds;
 ghost use mathlib.Core.Bool.{_&&_};
 ghost use mathlib.Core.Path.{_≡_};
 ghost use Prim.Native.Nat.{_^_};
@@ -24,7 +25,7 @@ fn tracks_in(tracks: u8, mask: u8) -> bool
 fn pre_in(kind: u8, f: u16) -> bool
     ensures { λ r. ⌜ r ≡ pre-in kind f ⌝ }
 {
-    if kind::old_booms(kind) {
+    if kinds::old_booms(kind) {
         f == 15
     } else {
         (1 <= f) & (f <= 180)

@@ -2,6 +2,7 @@
 // crates alone: `still` is normal position, `closed` is secured, worked out once for a row.
 use machine::Crossing;
 use machine::Entry;
+use machine::aspects;
 ghost use mathlib.Core.Path.{_≡_};
 ghost use Rattle.machine.specs.Plant.{normal, secured};
 ghost use Rattle.machine.specs.Panel.{lit, road, signal};
@@ -50,17 +51,18 @@ pub fn all(s: Entry, c: Crossing, still: bool, closed: bool) -> Shown
     }
 }
 
-// What of it is lit in this beat: bits 1 road, 2 boom lamps, which under the 1959 sheet are steady (document 02, T-09), 4 train
-// signal, 8 distant.
+// What of it is lit in this beat: bits 1 road, 2 boom lamps, 4 train signal, 8 distant. Steady by themselves (document 02, T-09) are
+// boom lamps of the 1959 sheet and amber.
 pub fn lit(beat: u8, s: Entry, c: Crossing, still: bool, shown: Shown) -> u8
     requires { ⌜ (still ≡ normal s c) × (shown ≡ shown-of s c) ⌝ }
     ensures { λ r. ⌜ r ≡ lit beat s c ⌝ }
 {
     let on = rhythm::lit_now(beat, c.lamps[4] == 1, still);
+    let steady = rhythm::lit_steady(beat);
     bits::flags(
-        rhythm::lit(on, shown.road),
-        (0 < shown.booms) & (on | kind::old_sheet(s.kind)),
-        rhythm::lit(on, shown.signal),
-        rhythm::lit(on, shown.distant),
+        rhythm::lit(shown.road, false, steady, on),
+        rhythm::lit(shown.booms, kind::old_sheet(s.kind), steady, on),
+        rhythm::lit(shown.signal, shown.signal == aspects::AMBER, steady, on),
+        rhythm::lit(shown.distant, shown.distant == aspects::AMBER, steady, on),
     )
 }

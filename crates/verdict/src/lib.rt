@@ -9,8 +9,8 @@ ghost use mathlib.Core.Path.{_≡_};
 ghost use Prim.Native.Nat.{_≤_};
 ghost use lib.Dec.{eqb};
 ghost use Rattle.machine.specs.Common.{refuse};
-ghost use Rattle.machine.specs.Events.{crossing-limit, place-limit, value-limit, any-calling, blocked, refusal};
-ghost use Rattle.verdict.specs.Cases.{number-of, verdict, state-refusal};
+ghost use Rattle.machine.specs.Events.{any-calling, blocked, refusal};
+ghost use Rattle.verdict.specs.Cases.{number-of, row-of, state-refusal, verdict};
 
 // The event that is taken, or the number that refuses it.
 pub enum Verdict {
@@ -18,41 +18,10 @@ pub enum Verdict {
     Refuse(u8),
 }
 
-// The event's crossing is below this: a tick is of the whole plant.
-fn crossing_limit(n: u8, code: u8) -> u8
-    ensures { λ r. ⌜ r ≡ crossing-limit n code ⌝ }
-{
-    if code == 0 { 1 } else { n }
-}
-
-// The event's place is below this: a track, a boom or a lamp.
-fn place_limit(s: Entry, code: u8) -> u8
-    ensures { λ r. ⌜ r ≡ place-limit s code ⌝ }
-{
-    match code {
-        1 => s.tracks,
-        2 => s.tracks,
-        5 => s.tracks,
-        6 => s.tracks,
-        8 => kind::boom_count(s.kind),
-        9 => kind::lamp_count(s.kind),
-        _ => 1,
-    }
-}
-
-// The event's value is below this. A boom reports at most that its position is lost (document 02, T-02).
-fn value_limit(code: u8) -> u8
-    ensures { λ r. ⌜ r ≡ value-limit code ⌝ }
-{
-    match code {
-        3 => 2,
-        4 => 2,
-        5 => 2,
-        6 => 2,
-        8 => reports::LOST + 1,
-        9 => 2,
-        _ => 1,
-    }
+// A row of the event table: the event's crossing, place and value are below these; an unknown code has none.
+pub enum Row {
+    Limits(u8, u8, u8),
+    Unknown,
 }
 
 // Operator hold off while some track is calling, hold on or not.
@@ -86,23 +55,40 @@ fn refuse_if(refused: bool, number: u8, e: Event) -> Verdict
     Verdict::Take(e)
 }
 
-// An event of the table, by what its crossing holds: 13, then 10 to 12.
+// What the event's crossing holds: 13, then 10 to 12.
 fn judge_state(s: Entry, c: Crossing, e: Event) -> Verdict
     ensures { λ r. ⌜ r ≡ verdict (state-refusal s c e) e ⌝ }
 {
-    let code = e.code;
+    let t = e.place as usize;
+    if e.code == 5 {
+        return refuse_if(!kind::dependent(s, t), numbers::NOT_DEPENDENT, e);
+    }
+    if e.code == 2 {
+        return refuse_if(track::trains(c, t) == 0, numbers::NO_TRAIN, e);
+    }
+    if e.code == 4 {
+        return refuse_if(held_by_train(c, e.value), numbers::TRAIN_CALLING, e);
+    }
+    if e.code == 7 {
+        return refuse_if(blocked(c), numbers::NOT_CLEAR, e);
+    }
+    Verdict::Take(e)
+}
+
+// The row of a code in the event table: a tick is of the whole plant; a boom reports at most that its position is lost (document 02,
+// T-02).
+fn row_of(n: u8, s: Entry, code: u8) -> Row
+    ensures { λ r. ⌜ r ≡ row-of n s code ⌝ }
+{
     match code {
-        2 => {
-            let t = e.place as usize;
-            refuse_if(track::trains(c, t) == 0, numbers::NO_TRAIN, e)
-        }
-        4 => refuse_if(held_by_train(c, e.value), numbers::TRAIN_CALLING, e),
-        5 => {
-            let t = e.place as usize;
-            refuse_if(!kind::dependent(s, t), numbers::NOT_DEPENDENT, e)
-        }
-        7 => refuse_if(blocked(c), numbers::NOT_CLEAR, e),
-        _ => Verdict::Take(e),
+        0 => Row::Limits(1, 1, 1),
+        1 | 2 => Row::Limits(n, s.tracks, 1),
+        3 | 4 => Row::Limits(n, 1, 2),
+        5 | 6 => Row::Limits(n, s.tracks, 2),
+        7 => Row::Limits(n, 1, 1),
+        8 => Row::Limits(n, kind::boom_count(s.kind), reports::LOST + 1),
+        9 => Row::Limits(n, kind::lamp_count(s.kind), 2),
+        _ => Row::Unknown,
     }
 }
 
@@ -112,16 +98,17 @@ pub fn judge(n: u8, s: Entry, c: Crossing, e: Event) -> Verdict
     ensures { λ r. ⌜ r ≡ verdict (refusal n s c true e) e ⌝ }
     ensures { λ r. ⌜ number-of r ≡ refusal n s c true e ⌝ }
 {
-    if 9 < e.code {
+    let row = row_of(n, s, e.code);
+    let Row::Limits(crossing, place, value) = row else {
         return Verdict::Refuse(numbers::UNKNOWN_CODE);
-    }
-    if crossing_limit(n, e.code) <= e.crossing {
+    };
+    if crossing <= e.crossing {
         return Verdict::Refuse(numbers::UNKNOWN_CROSSING);
     }
-    if place_limit(s, e.code) <= e.place {
+    if place <= e.place {
         return Verdict::Refuse(numbers::UNKNOWN_PLACE);
     }
-    if value_limit(e.code) <= e.value {
+    if value <= e.value {
         return Verdict::Refuse(numbers::UNKNOWN_VALUE);
     }
     judge_state(s, c, e)

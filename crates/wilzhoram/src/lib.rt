@@ -18,6 +18,15 @@ ghost use Rattle.machine.specs.Sheet.{run, run-panel};
 ghost use Rattle.machine.specs.Shift.{agree};
 ghost use Rattle.machine.specs.SiteBook.{read, write-number, written-book};
 ghost use Rattle.machine.specs.Step.{step};
+ghost use Rattle.wilzhoram.specs.Version.{version};
+
+// The version of these calls. Its name holds the number, so that a program of another version does not link.
+#[no_mangle]
+pub extern "C" fn wilzhoram_version_10900() -> u32
+    ensures { λ r. ⌜ r ≡ version ⌝ }
+{
+    10900
+}
 
 // A site book read: its number and its fresh plant.
 #[no_mangle]

@@ -2,6 +2,10 @@
 //! laid out as there, and every byte pattern is a value of each that a call is handed: what is
 //! out of range, the calls refuse.
 
+mod constants;
+
+pub use constants::*;
+
 /// The settings of one crossing. Kinds 5 and 6 are 1 and 2 under the sheet of 1959 (T-09). `pause`
 /// is M, the ticks for motorists between two closures, 0 to 540 at every kind (T-06).
 #[repr(C)]
@@ -20,29 +24,7 @@ pub struct Entry {
 #[derive(Clone, Copy, PartialEq, Debug)]
 pub struct Site {
     pub n: u8,
-    pub entries: [Entry; 8],
-}
-
-/// Boom reports: the value of an event of code 8, and what the plant holds of each boom.
-pub mod boom {
-    pub const UP: u8 = 0;
-    pub const MOVING: u8 = 1;
-    pub const DOWN: u8 = 2;
-    /// Position lost: neither up nor moving nor down (T-02).
-    pub const LOST: u8 = 3;
-}
-
-/// Senders of a command (T-04); any other is unknown, number 16. Who has no right to an event gets
-/// number 17, and bytes that a sender does not see are drawn as 0.
-pub mod sender {
-    /// May send codes 0, 1, 2, 5, 6, 8 and 9; sees every panel byte.
-    pub const DETECTION: u8 = 0;
-    /// May send code 3; sees every panel byte.
-    pub const KIOSK: u8 = 1;
-    /// The local operator: may send codes 4 and 7; sees bytes 0 and 6 to 11 of each crossing.
-    pub const OPERATOR: u8 = 2;
-    /// The remote centre: may send code 7, and 4 with value 1; sees what the operator does.
-    pub const CENTRE: u8 = 3;
+    pub entries: [Entry; MOST_CROSSINGS],
 }
 
 /// What the plant holds for one crossing. Each byte of route, occupied, unsure, lamps, kiosk
@@ -74,7 +56,7 @@ pub struct Crossing {
 pub struct Plant {
     pub site: Site,
     pub beat: u8,
-    pub crossings: [Crossing; 8],
+    pub crossings: [Crossing; MOST_CROSSINGS],
 }
 
 /// An event: any four bytes.
@@ -150,6 +132,8 @@ mod c {
     use super::{Agreement, Answer, BoardDistance, Event, Plant, Preview, Reading, Run, Site};
 
     extern "C" {
+        #[link_name = "wilzhoram_version_10900"]
+        pub fn wilzhoram_version() -> u32;
         pub fn wilzhoram_read(book: *const u8, length: usize) -> Reading;
         pub fn wilzhoram_write(site: Site, book: *mut u8, length: usize) -> u8;
         pub fn wilzhoram_event(plant: Plant, sender: u8, event: Event) -> Answer;
@@ -180,6 +164,13 @@ mod c {
             gradient: i16,
         ) -> BoardDistance;
     }
+}
+
+/// The version of the library, [`VERSION`]: the linker knows it by a name that holds the version, so
+/// that a program which calls this does not link with a library of another one.
+pub fn version() -> u32 {
+    // SAFETY: it takes nothing.
+    unsafe { c::wilzhoram_version() }
 }
 
 /// Reads a site book of 1 + 9n bytes; one without M is torn, number 1 (T-06).

@@ -1,17 +1,13 @@
-use Rattle.machine.specs.Panel.{rhythm}
 use Rattle.rhythm.proofs.of.Statement.{statement}
 use Rattle.rhythm.proofs.of.Tie as tie
 
 returns : tie.Need-returns
-unfolding rhythm
 returns c = simp (c .if2 .taken, c .before .if1 .taken)
 
 returns-2 : tie.Need-returns-2
-unfolding rhythm
 returns-2 c = simp (c .if2 .left, c .before .if1 .taken)
 
 returns-3 : tie.Need-returns-3
-unfolding rhythm
 returns-3 c = simp (c .if1 .left)
 
 pub of-spec : {M : Type 1} → statement M

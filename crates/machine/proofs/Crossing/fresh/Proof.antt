@@ -18,11 +18,14 @@ by-lamp false old = refl
 cast-whole : tie.Need-cast-whole
 cast-whole c = search needs
 
+old-booms-requires : tie.Need-old-booms-requires
+old-booms-requires c κs = search needs
+
 cast-boom : tie.Need-cast-boom
 cast-boom c = search needs
 
 returns : tie.Need-returns
-returns c = simp (by-lamp (c .args .used) (old-booms (c .args .kind)))
+returns c = let a = c .before .args in simp (c .old-booms .ensures, by-lamp (a .used) (old-booms (a .kind)))
 
 pub fresh-spec : {M : Type 1} → statement M
-fresh-spec = tie.close (tie.spec cast-whole cast-boom returns)
+fresh-spec = tie.close (tie.spec cast-whole old-booms-requires cast-boom returns)

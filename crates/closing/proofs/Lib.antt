@@ -1,0 +1,3 @@
+mod Measure
+pub mod Closing
+pub mod Exact
