@@ -1,4 +1,6 @@
 // Hut against cabin (document 02, T-07): two sheets of one shift, compared stretch by stretch.
+#![tactic(auto)]
+
 ghost use Rattle.std.specs.Prelude.{◌≡◌, ◌≤◌, ◌<◌, length};
 ghost use Rattle.machine.specs.Sheet.{sheet_number};
 ghost use Rattle.machine.specs.Shift.{agree};

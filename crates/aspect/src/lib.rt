@@ -1,4 +1,6 @@
 // What a signal shows (document 01, "Panel").
+#![tactic(auto)]
+
 ghost use Rattle.std.specs.Prelude.{cond, ◌≡◌, eqb};
 ghost use Rattle.machine.specs.Common.{bit};
 ghost use Rattle.machine.specs.Panel.{amber};

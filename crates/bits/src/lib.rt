@@ -1,4 +1,6 @@
 // Tests as numbers and bits of a byte.
+#![tactic(auto)]
+
 ghost use Rattle.std.specs.Prelude.{cond, ◌≡◌, ◌+◌, ◌≤◌};
 ghost use Rattle.machine.specs.Common.{bit};
 

@@ -1,4 +1,6 @@
 // Board distance to the metre (document 02, T-08): source document 000, section 3.4.3, by whole numbers.
+#![tactic(auto)]
+
 ghost use Rattle.std.specs.Prelude.{◌≡◌, ◌≤◌, pos, nat_abs, ◌+ℤ◌};
 ghost use Rattle.machine.specs.Board.{ratio, full_tens, board_number, board_distance};
 ghost use Rattle.setting_out.specs.SettingOut.{Retardation, Gradient, slowing, top, bottom};

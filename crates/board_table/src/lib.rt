@@ -1,4 +1,6 @@
 // The printed table of board distances (document 02, T-08): source document 000, section 3.4.3.
+#![tactic(auto)]
+
 ghost use Rattle.std.specs.Prelude.{◌≡◌};
 ghost use Rattle.machine.specs.BoardTable.{printed};
 

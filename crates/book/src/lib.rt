@@ -1,5 +1,7 @@
 // The site book read and written in turn.
 // Any bytes, any settings and any lent output are taken; a refused call leaves every lent byte.
+#![tactic(auto)]
+
 ghost use Rattle.std.specs.Prelude.{◌≡◌};
 ghost use Rattle.machine.specs.SiteBook.{written_book};
 ghost use Rattle.book.specs.Copies.{copied, copy_number, reread};

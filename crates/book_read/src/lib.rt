@@ -1,4 +1,6 @@
 // The site book read: its bytes to a fresh plant. Any bytes are taken.
+#![tactic(auto)]
+
 ghost use Rattle.std.specs.Prelude.{cond, ◌≡◌, ◌+◌, ◌*◌, ◌≤◌, ◌<◌, eqb, length};
 ghost use Rattle.machine.specs.Common.{all_below, word};
 ghost use Rattle.machine.specs.Plant.{no_entry};

@@ -1,5 +1,7 @@
 // The site book written: settings to its bytes, in a lent output.
 // Any settings and any output are taken; a refused write leaves every lent byte.
+#![tactic(auto)]
+
 ghost use Rattle.std.specs.Prelude.{cond, ◌≡◌, ◌+◌, ◌*◌, ◌≤◌, ltb, length};
 ghost use Rattle.std.proofs.lemmas.List.Edits.{sets};
 ghost use Rattle.machine.specs.Common.{all_below, concat_below};

@@ -1,4 +1,6 @@
 // Tests over the booms that a kind has (document 01, "What the plant holds").
+#![tactic(auto)]
+
 ghost use Rattle.std.specs.Prelude.{◌||◌, ◌≡◌, eqb, get_or};
 ghost use Rattle.machine.specs.Reports.{moving, down};
 ghost use Rattle.machine.specs.Plant.{each_boom, booms_up, booms_down, booms_closed};

@@ -1,4 +1,6 @@
 // The verdict on a sender's event (document 02, T-04).
+#![tactic(auto)]
+
 ghost use Rattle.std.specs.Prelude.{◌≡◌};
 ghost use Rattle.machine.specs.Rights.{may_send};
 ghost use Rattle.machine.specs.Events.{refusal};

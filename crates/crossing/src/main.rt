@@ -1,4 +1,6 @@
 // Reads site.bin and sheet.bin, runs the sheet from the fresh plant, and prints the counts and the panel.
+#![tactic(auto)]
+
 ghost use Rattle.std.specs.Prelude.{◌+◌, ◌*◌, ◌≤◌, length};
 ghost use Rattle.io.specs.Counts.{IsPrefixLen};
 

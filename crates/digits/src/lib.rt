@@ -1,5 +1,7 @@
 // Several small numbers as the digits of one (specs/Digits.antt): bytes, pairs of bits and bits. A word is read and written
 // whole, where an array at a place that is not known is not. The width of a digit, or its base, is a constant of the caller.
+#![tactic(auto)]
+
 ghost use Rattle.std.specs.Prelude.{◌≡◌, ◌*◌, ◌^◌, ◌≤◌, ◌<◌, set};
 ghost use Rattle.digits.specs.Digits.{digit, digits, joined};
 

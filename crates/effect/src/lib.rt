@@ -1,6 +1,8 @@
 // What a taken event of codes 1 to 9 does to its own crossing and writes off there (document 01, "Events"; document 02, T-01).
 // Each function here is for other functions and crates alone: all but `written_off` require what a taken event of a
 // crossing in range has.
+#![tactic(auto)]
+
 ghost use Rattle.std.specs.Prelude.{◌≡◌, ◌≤◌};
 ghost use Rattle.machine.specs.Common.{bit};
 ghost use Rattle.machine.specs.Effects.{act, sweeps};

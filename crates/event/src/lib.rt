@@ -1,4 +1,6 @@
 // The event call (document 01, "Events"; document 02, T-04): any plant, spoilt ones too, any sender and any four bytes.
+#![tactic(auto)]
+
 ghost use Rattle.std.specs.Prelude.{◌≡◌, true};
 ghost use Rattle.machine.specs.Range.{in_range};
 ghost use Rattle.machine.specs.Rights.{known_sender};

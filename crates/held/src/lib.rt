@@ -1,4 +1,6 @@
 // What one crossing holds is in its range (document 01, "What the plant holds").
+#![tactic(auto)]
+
 ghost use Rattle.std.specs.Prelude.{◌≡◌};
 ghost use Rattle.machine.specs.Common.{all_below};
 ghost use Rattle.machine.specs.Range.{report_limit, boom_in, crossing_in, lamp_in, left_limit, phase_in};

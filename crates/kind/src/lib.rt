@@ -1,5 +1,7 @@
 // What a kind and a mask give a crossing: its booms, the sheet that it is under (document 02, T-09) and its dependent tracks
 // (document 01, "Site book"). Code asks these tests, never which number a kind is.
+#![tactic(auto)]
+
 ghost use Rattle.std.specs.Prelude.{◌≡◌};
 ghost use Rattle.machine.specs.Kinds.{lights_only, half_booms, four_booms, old_sheet, boom_count, lamp_count};
 ghost use Rattle.machine.specs.Plant.{dependent};

@@ -1,5 +1,7 @@
 // A crossing in words of 64 bits (specs/Lanes.antt), for the sheet run: held without an array, so that the compiler keeps it in
 // registers. What it holds is said by the crossing that it is.
+#![tactic(auto)]
+
 ghost use Rattle.std.specs.Prelude.{◌≡◌, ◌≤◌, ◌<◌};
 ghost use Rattle.machine.specs.Events.{any_calling, blocked};
 ghost use Rattle.machine.specs.Plant.{dependent, calling, waiting, route, trains};
@@ -9,7 +11,7 @@ use machine::{Crossing, Entry};
 
 // A crossing: four bytes in `calling` and `waiting`, four bits in `route`, `occupied` and `unsure`, four pairs of bits in
 // `booms`, seven bits in `lamps`.
-#[derive(Drop)]
+#[derive(Clone, Copy)]
 pub struct Lane {
     pub calling: u64,
     pub waiting: u64,

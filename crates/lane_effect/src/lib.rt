@@ -1,4 +1,6 @@
 // What a taken event makes of its own crossing held in words, for the sheet run: as crates/train and effect have it, without an array.
+#![tactic(auto)]
+
 ghost use Rattle.std.specs.Prelude.{◌≡◌};
 ghost use Rattle.machine.specs.Effects.{act};
 ghost use Rattle.lane.specs.Lanes.{crossing_of};

@@ -1,4 +1,6 @@
 // A crossing in words settles: as crates/settle has it, for the sheet run.
+#![tactic(auto)]
+
 ghost use Rattle.std.specs.Prelude.{◌≡◌};
 ghost use Rattle.machine.specs.Common.{bit};
 ghost use Rattle.machine.specs.Plant.{booms_up, reason};

@@ -1,4 +1,6 @@
 // A tick of a crossing in words: as crates/tick and release have it, for the sheet run.
+#![tactic(auto)]
+
 ghost use Rattle.std.specs.Prelude.{◌≡◌, ◌≤◌, pred};
 ghost use Rattle.machine.specs.Common.{bit};
 ghost use Rattle.machine.specs.Effects.{overlong, releases, phase_ticked, timer_ticked, tick};
@@ -10,7 +12,7 @@ use lane::Lane;
 use machine::Entry;
 
 // A lane after a tick, and the trains written off there.
-#[derive(Drop)]
+#[derive(Clone, Copy)]
 pub struct Ticked {
     pub lane: Lane,
     pub written: u64,

@@ -1,5 +1,7 @@
 // The verdict on an event whose crossing is held in words, for the sheet run: as crates/verdict has it, without an array. A tick by
 // itself, and each limit by itself, for speed (docs/BENCHMARK.md).
+#![tactic(auto)]
+
 ghost use Rattle.std.specs.Prelude.{true, ◌≡◌, ◌≤◌, ◌<◌};
 ghost use Rattle.machine.specs.Common.{bit};
 ghost use Rattle.machine.specs.Effects.{sweeps};

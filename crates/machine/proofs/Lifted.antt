@@ -43,7 +43,8 @@ module _ {A B : Type 0} (R : A → B → Type 0) where
 
     pub same_parts : {s : List A} {t : List B} {l : List A} {m : List B} → Lifted R s t → Lifted R l m → Lifted (Lifted R) (parted f s l) (parted g t m)
     same_parts k none = more k none
-    same_parts k (more {y = y} r h) = rw (same _ _ r) (by_conds (Lifted (Lifted R)) (g y) (more k (same_parts none h)) (same_parts (lifted_append k (more r none)) h))
+    same_parts {s = s} {t = t} k (more {x = x} {y = y} r h) =
+        rw (same _ _ r) (by_conds (Lifted (Lifted R)) (g y) (more k (same_parts {s = []} {t = []} none h)) (same_parts {s = s ++ (x ∷ [])} {t = t ++ (y ∷ [])} (lifted_append k (more r none)) h))
 
   module _ (f : A → A → Bool) (g : B → B → Bool) (same : (x x' : A) (y y' : B) → R x y → R x' y' → f x x' ≡ g y y') where
     pub same_pairs : {l : List A} {m : List B} {k : List A} {n : List B} → Lifted R l m → Lifted R k n → (pairwise f l k ≡ pairwise g m n) × (first_unlike f l k ≡ first_unlike g m n)

@@ -1,5 +1,7 @@
 // The types of the crossing engine (document 01, "What the plant holds") and the fresh plant.
 // What each event does and what each panel byte shows is defined in specs/.
+#![tactic(auto)]
+
 pub mod aspects;
 pub mod kinds;
 pub mod numbers;
@@ -13,7 +15,7 @@ ghost use Rattle.machine.specs.Plant.{fresh_crossing, fresh_plant, lamp_count};
 // The settings of one crossing: kind 1 to 6, tracks 1 to 4, the mask of dependent tracks; in ticks F, G and M, the time for
 // motorists between closures (document 02, T-06).
 #[repr(C)]
-#[derive(Drop)]
+#[derive(Clone, Copy)]
 pub struct Entry {
     pub kind: u8,
     pub tracks: u8,
@@ -25,7 +27,7 @@ pub struct Entry {
 
 // The settings of a plant: n crossings, the entries past n all zero.
 #[repr(C)]
-#[derive(Drop)]
+#[derive(Clone, Copy)]
 pub struct Site {
     pub n: u8,
     pub entries: [Entry; 8],
@@ -40,7 +42,7 @@ pub struct Site {
 // Phases: 0 open, 1 warning, 2 right booms ordered down, 3 all ordered down, 4 raising.
 // Left: the ticks left to motorists before a warning may begin (document 02, T-06). Out: the ticks out of normal.
 #[repr(C)]
-#[derive(Drop)]
+#[derive(Clone, Copy)]
 pub struct Crossing {
     pub calling: [u8; 4],
     pub waiting: [u8; 4],
@@ -60,7 +62,7 @@ pub struct Crossing {
 
 // The plant goes in and comes back by value.
 #[repr(C)]
-#[derive(Drop)]
+#[derive(Clone, Copy)]
 pub struct Plant {
     pub site: Site,
     pub beat: u8,
@@ -69,7 +71,7 @@ pub struct Plant {
 
 // An event: any four bytes.
 #[repr(C)]
-#[derive(Drop)]
+#[derive(Clone, Copy)]
 pub struct Event {
     pub code: u8,
     pub crossing: u8,
@@ -78,7 +80,7 @@ pub struct Event {
 }
 
 // How a signal flashes (document 02, T-05): 45 flashes a minute, 90 flashes a minute, or not at all.
-#[derive(Drop)]
+#[derive(Clone, Copy)]
 pub enum Rhythm {
     Slow,
     Fast,
@@ -87,7 +89,7 @@ pub enum Rhythm {
 
 // What an event call returns: number 0 if taken, the trains written off, the plant after it.
 #[repr(C)]
-#[derive(Drop)]
+#[derive(Clone, Copy)]
 pub struct Answer {
     pub number: u8,
     pub written: u32,
@@ -96,7 +98,7 @@ pub struct Answer {
 
 // What a preview returns (document 02, T-03): what the event would answer; no plant comes back.
 #[repr(C)]
-#[derive(Drop)]
+#[derive(Clone, Copy)]
 pub struct Preview {
     pub number: u8,
     pub written: u32,
@@ -104,7 +106,7 @@ pub struct Preview {
 
 // What reading a site book returns.
 #[repr(C)]
-#[derive(Drop)]
+#[derive(Clone, Copy)]
 pub struct Reading {
     pub number: u8,
     pub plant: Plant,
@@ -112,7 +114,7 @@ pub struct Reading {
 
 // What a sheet run returns.
 #[repr(C)]
-#[derive(Drop)]
+#[derive(Clone, Copy)]
 pub struct Run {
     pub number: u8,
     pub plant: Plant,
@@ -123,7 +125,7 @@ pub struct Run {
 
 // What the hut's sheet against the cabin's returns (document 02, T-07).
 #[repr(C)]
-#[derive(Drop)]
+#[derive(Clone, Copy)]
 pub struct Agreement {
     pub number: u8,
     pub agreed: bool,
@@ -132,14 +134,14 @@ pub struct Agreement {
 
 // What a board distance returns (document 02, T-08), in metres.
 #[repr(C)]
-#[derive(Drop)]
+#[derive(Clone, Copy)]
 pub struct BoardDistance {
     pub number: u8,
     pub distance: u16,
 }
 
 // A cell of the printed table of board distances (document 02, T-08) with what it is for: km/h, mm/s2, per mille, metres.
-#[derive(Drop)]
+#[derive(Clone, Copy)]
 pub struct BoardCell {
     pub speed: u16,
     pub retardation: u16,

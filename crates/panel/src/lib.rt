@@ -1,4 +1,6 @@
 // The panel: a row for each crossing, drawn into a lent output (document 01, "Panel"), as a sender sees it (document 02, T-04).
+#![tactic(auto)]
+
 ghost use Rattle.std.specs.Prelude.{◌≡◌, ◌+◌, ◌*◌, ◌≤◌, length};
 ghost use Rattle.std.proofs.lemmas.List.Edits.{sets};
 ghost use Rattle.machine.specs.Panel.{panel, view, draw_number, drawn};

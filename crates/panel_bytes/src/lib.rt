@@ -1,4 +1,6 @@
 // Bytes of a row that are summed over the tracks: main signals released, trains calling and waiting.
+#![tactic(auto)]
+
 ghost use Rattle.std.specs.Prelude.{◌&&◌, ◌≡◌, ◌+◌, get_or};
 ghost use Rattle.machine.specs.Common.{bit, sum4};
 ghost use Rattle.machine.specs.Plant.{dependent, is_on};

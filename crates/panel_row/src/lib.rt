@@ -1,4 +1,6 @@
 // One crossing's row of the panel: sixteen bytes (document 01, "Panel").
+#![tactic(auto)]
+
 ghost use Rattle.std.specs.Prelude.{◌≡◌};
 ghost use Rattle.machine.specs.Panel.{row};
 

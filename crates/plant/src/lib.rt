@@ -1,4 +1,6 @@
 // The range check: every held number of a plant, settings included, is in its range (number 15). Any plant, spoilt ones too.
+#![tactic(auto)]
+
 ghost use Rattle.std.specs.Prelude.{◌≡◌};
 ghost use Rattle.machine.specs.Range.{in_range, place_in};
 

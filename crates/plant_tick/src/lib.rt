@@ -1,4 +1,6 @@
 // A tick of the whole plant (document 01, "Events").
+#![tactic(auto)]
+
 ghost use Rattle.std.specs.Prelude.{true, ◌≡◌, ◌≤◌};
 ghost use Rattle.machine.specs.Range.{in_range};
 ghost use Rattle.plant_tick.specs.Ticks.{ticked_plant};
@@ -6,7 +8,7 @@ ghost use Rattle.plant_tick.specs.Ticks.{ticked_plant};
 use machine::{Crossing, Site};
 
 // The whole plant after a tick, but for its site, and the trains written off.
-#[derive(Drop)]
+#[derive(Clone, Copy)]
 pub struct Ticks {
     pub beat: u8,
     pub crossings: [Crossing; 8],

@@ -1,4 +1,6 @@
 // Normal position and secured (document 01, "What the plant holds").
+#![tactic(auto)]
+
 ghost use Rattle.std.specs.Prelude.{◌≡◌};
 ghost use Rattle.machine.specs.Plant.{boom_lamps_whole, lamp, normal, secured};
 

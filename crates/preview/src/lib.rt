@@ -1,5 +1,7 @@
 // The preview (document 02, T-03, T-04): what one event would answer and draw, done on a copy. Any plant, any sender, any four
 // bytes, any output.
+#![tactic(auto)]
+
 ghost use Rattle.std.specs.Prelude.{◌≡◌};
 ghost use Rattle.machine.specs.Preview.{preview_number, preview_written, preview_panel};
 

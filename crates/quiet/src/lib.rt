@@ -1,4 +1,6 @@
 // Quiet ticks: at most crossings a tick only counts. What k of them make of a crossing, and how many of them lie ahead.
+#![tactic(auto)]
+
 ghost use Rattle.std.specs.Prelude.{◌≡◌, ◌-◌, ◌≤◌};
 ghost use Rattle.machine.specs.Plant.{normal};
 ghost use Rattle.lane.specs.Lanes.{crossing_of};

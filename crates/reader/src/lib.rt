@@ -1,5 +1,7 @@
 // The event sheet: its size, its number, and a reader that hands out the event at a place (document 01, "Event sheet and
 // program"). The checker covers no function with a struct that holds a slice, so the last three here are proved by hand.
+#![tactic(auto)]
+
 ghost use Rattle.std.specs.Prelude.{◌≡◌, ◌≤◌, ◌<◌, length};
 ghost use Rattle.machine.specs.Sheet.{sheet_size, sheet_event, sheet_number};
 ghost use Rattle.reader.specs.Whole.{Whole};
@@ -51,7 +53,7 @@ fn read_event(sheet: &[u8], m: usize, k: usize) -> Event
 }
 
 // A whole sheet and its size in events.
-#[derive(Drop)]
+#[derive(Clone, Copy)]
 pub struct SheetReader<'a> {
     pub sheet: &'a [u8],
     pub size: usize,

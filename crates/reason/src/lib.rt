@@ -1,4 +1,6 @@
 // A reason to close (document 01, "What the plant holds"; document 02, T-01).
+#![tactic(auto)]
+
 ghost use Rattle.std.specs.Prelude.{◌≡◌, get_or, ltb};
 ghost use Rattle.machine.specs.Common.{any_below};
 ghost use Rattle.machine.specs.Plant.{is_on, reason};

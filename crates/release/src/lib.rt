@@ -1,5 +1,7 @@
 // A release that completes on a tick (document 01, "Events"), that of the 1959 sheet too (document 02, T-09), and the trains that
 // it writes off.
+#![tactic(auto)]
+
 ghost use Rattle.std.specs.Prelude.{◌≡◌, ◌+◌, ◌≤◌};
 ghost use Rattle.machine.specs.Common.{bit};
 ghost use Rattle.machine.specs.Plant.{total};

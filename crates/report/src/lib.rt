@@ -1,11 +1,13 @@
 // What the program prints, worked out from the bytes of its two files (document 01, "Event sheet and program").
+#![tactic(auto)]
+
 ghost use Rattle.std.specs.Prelude.{◌≡◌};
 ghost use Rattle.report.specs.Report.{refused, report, report_panel};
 
 use machine::numbers;
 
 // The number, 0 where the files are taken; then the crossings and the counts of the run, all 0 where they are refused.
-#[derive(Drop)]
+#[derive(Clone, Copy)]
 pub struct Outcome {
     pub number: u8,
     pub n: u8,

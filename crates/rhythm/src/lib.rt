@@ -1,4 +1,6 @@
 // Lit or dark in a beat, read from one table: a row for each rhythm and beat (document 02, T-05).
+#![tactic(auto)]
+
 ghost use Rattle.std.specs.Prelude.{cond, ◌&&◌, ◌≡◌, ltb};
 ghost use Rattle.machine.specs.declared.Rhythm.TheVariants.{Steady};
 ghost use Rattle.machine.specs.Panel.{by_position, lit_at};
@@ -11,7 +13,7 @@ const LIT: bool = true;
 const DARK: bool = false;
 
 // A rhythm, a beat, and whether a signal of that rhythm is lit in that beat.
-#[derive(Drop)]
+#[derive(Clone, Copy)]
 pub struct Row(pub Rhythm, pub u8, pub bool);
 
 // The rows, each with its sections of source 002, or of source 003 (document 02, T-09). A beat is a third of a second.

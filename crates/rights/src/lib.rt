@@ -1,4 +1,6 @@
 // Rights at the desk (document 02, T-04): who may send what, and what a sender sees of a crossing.
+#![tactic(auto)]
+
 ghost use Rattle.std.specs.Prelude.{◌≡◌};
 ghost use Rattle.machine.specs.Panel.{seen};
 ghost use Rattle.machine.specs.Rights.{known_sender, may_send};

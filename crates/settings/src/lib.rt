@@ -1,4 +1,6 @@
 // The settings of a site: what number 3 asks of an entry, and number 2 of the count. No function has a `requires`.
+#![tactic(auto)]
+
 ghost use Rattle.std.specs.Prelude.{◌&&◌, ◌≡◌, ◌^◌, leb, ltb};
 ghost use Rattle.machine.specs.Common.{refuse};
 ghost use Rattle.machine.specs.Range.{count_in, entry_in, entry_zero, gap_in, pre_in};

@@ -1,5 +1,7 @@
 // Settling: once after an event of the crossing's own or a tick, by the phase on entry (document 01, "Events"). In parts,
 // next_phase, enter and count_out, which callers take in turn: together they are too long for the compiler to put into a tick.
+#![tactic(auto)]
+
 ghost use Rattle.std.specs.Prelude.{◌≡◌};
 ghost use Rattle.machine.specs.Common.{bit};
 ghost use Rattle.machine.specs.Settling.{left_settled, out_settled, phase_settled, timer_settled};

@@ -1,4 +1,6 @@
 // The sheet run: a plant, a sheet of events and a lent panel (document 01, "Event sheet and program").
+#![tactic(auto)]
+
 ghost use Rattle.std.specs.Prelude.{true, ◌≡◌};
 ghost use Rattle.machine.specs.Range.{in_range};
 ghost use Rattle.machine.specs.Sheet.{sheet_event, ran, run, run_panel};

@@ -1,5 +1,7 @@
 // What a crossing shows and what of it is lit (document 01, "Panel"; document 02, T-05, T-09). Functions for other functions and
 // crates alone: `still` is normal position, `closed` is secured, worked out once for a row.
+#![tactic(auto)]
+
 ghost use Rattle.std.specs.Prelude.{◌≡◌};
 ghost use Rattle.machine.specs.Plant.{normal, secured};
 ghost use Rattle.machine.specs.Panel.{lit, road, signal};
@@ -8,7 +10,7 @@ ghost use Rattle.signals.specs.Shown.{shown_of};
 use machine::{Crossing, Entry, aspects};
 
 // Road, boom lamps, train signal, distant: bytes 0, 3, 6 and 7 of a row.
-#[derive(Drop)]
+#[derive(Clone, Copy)]
 pub struct Shown {
     pub road: u8,
     pub booms: u8,

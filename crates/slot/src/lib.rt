@@ -1,4 +1,6 @@
 // A slot of the run: a crossing as of an earlier tick, brought up to date when it is next looked at.
+#![tactic(auto)]
+
 ghost use Rattle.std.specs.Prelude.{◌≡◌, ◌≤◌, suc};
 ghost use Rattle.machine.specs.Common.{bit};
 ghost use Rattle.machine.specs.Plant.{total};
@@ -12,7 +14,7 @@ use lane::Lane;
 use machine::{Crossing, Entry, Event};
 
 // A slot in words: a lane as it was at the tick `since`; up to the tick `due` every tick only counts there.
-#[derive(Drop)]
+#[derive(Clone, Copy)]
 pub struct Packed {
     pub lane: Lane,
     pub since: u64,
@@ -20,7 +22,7 @@ pub struct Packed {
 }
 
 // A slot after a tick, and the trains written off there.
-#[derive(Drop)]
+#[derive(Clone, Copy)]
 pub struct Ticked {
     pub slot: Packed,
     pub written: u64,

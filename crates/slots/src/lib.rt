@@ -1,4 +1,6 @@
 // The eight slots of a run.
+#![tactic(auto)]
+
 ghost use Rattle.std.specs.Prelude.{◌≡◌, ◌≤◌};
 ghost use Rattle.slots.specs.Eight.{AllSmall, Begun, shown, AllFit, Swept};
 
@@ -6,7 +8,7 @@ use machine::{Crossing, Site};
 use slot::Packed;
 
 // The slots after a tick, a tick before which none is due, and the trains written off.
-#[derive(Drop)]
+#[derive(Clone, Copy)]
 pub struct Round {
     pub slots: [Packed; 8],
     pub least: u64,

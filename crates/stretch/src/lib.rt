@@ -1,4 +1,6 @@
 // One stretch of a shift against another (document 02, T-07), by counting. Of each event there is its key, 0 for a tick.
+#![tactic(auto)]
+
 ghost use Rattle.std.specs.Prelude.{◌≡◌, ◌≤◌, eqb, length};
 ghost use Rattle.machine.specs.Shift.{how_many, all_of};
 ghost use Rattle.stretch.specs.Keys.{as_often, alike, slice, Ends};

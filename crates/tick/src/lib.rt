@@ -1,4 +1,6 @@
 // One crossing's tick (document 01, "Events").
+#![tactic(auto)]
+
 ghost use Rattle.std.specs.Prelude.{◌≡◌, ◌≤◌, pred};
 ghost use Rattle.machine.specs.Effects.{phase_ticked, timer_ticked, tick};
 ghost use Rattle.tick.specs.Ticks.{ticked_crossing};
@@ -6,7 +8,7 @@ ghost use Rattle.tick.specs.Ticks.{ticked_crossing};
 use machine::{Crossing, Entry};
 
 // One crossing after a tick, and the trains written off there.
-#[derive(Drop)]
+#[derive(Clone, Copy)]
 pub struct Ticked {
     pub crossing: Crossing,
     pub written: u32,

@@ -1,4 +1,6 @@
 // What one track holds (document 01, "What the plant holds").
+#![tactic(auto)]
+
 ghost use Rattle.std.specs.Prelude.{◌≡◌, ◌+◌, ◌<◌};
 ghost use Rattle.machine.specs.Plant.{trains, is_full};
 ghost use Rattle.machine.specs.Range.{track_in, track_zero};

@@ -1,5 +1,7 @@
 // The events that move trains: strike-in, passage and route (document 01, "Events").
 // Each function is for crates/effect alone: it requires what a taken event of a crossing in range has.
+#![tactic(auto)]
+
 ghost use Rattle.std.specs.Prelude.{◌≡◌};
 ghost use Rattle.machine.specs.Effects.{act};
 ghost use Rattle.train.specs.Room.{Room};

@@ -1,4 +1,6 @@
 // A record past the last crossing: all zero (document 01, "What the plant holds").
+#![tactic(auto)]
+
 ghost use Rattle.std.specs.Prelude.{◌≡◌, eqb};
 ghost use Rattle.machine.specs.Common.{all_below};
 ghost use Rattle.machine.specs.Plant.{boom, lamp_flag};

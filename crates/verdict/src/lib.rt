@@ -1,4 +1,6 @@
 // The verdict on an event: taken, or refused with its number (document 01, "Events", "Numbers at the hut").
+#![tactic(auto)]
+
 ghost use Rattle.std.specs.Prelude.{true, ◌&&◌, ◌≡◌, ◌≤◌, eqb};
 ghost use Rattle.machine.specs.Common.{refuse};
 ghost use Rattle.machine.specs.Events.{any_calling, blocked, refusal};
@@ -7,14 +9,14 @@ ghost use Rattle.verdict.specs.Cases.{number_of, row_of, state_refusal, verdict}
 use machine::{Crossing, Entry, Event, numbers, reports};
 
 // The event that is taken, or the number that refuses it.
-#[derive(Drop)]
+#[derive(Clone, Copy)]
 pub enum Verdict {
     Take(Event),
     Refuse(u8),
 }
 
 // A row of the event table: the event's crossing, place and value are below these; an unknown code has none.
-#[derive(Drop)]
+#[derive(Clone, Copy)]
 pub enum Row {
     Limits(u8, u8, u8),
     Unknown,

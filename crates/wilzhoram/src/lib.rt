@@ -1,5 +1,7 @@
 // The engine for programs in C and Rust: the eight calls of include/wilzhoram.h, each thin over the call that does the work.
 // Any plant, any settings, any sender (T-04), any bytes; a refused call leaves every lent byte.
+#![tactic(auto)]
+
 ghost use Rattle.std.specs.Prelude.{◌≡◌};
 ghost use Rattle.machine.specs.Board.{board_distance};
 ghost use Rattle.machine.specs.Events.{sent};

@@ -1,4 +1,6 @@
 // Numbers of 16 bits as two bytes, low byte first (document 01, "Site book", "Panel", "Event sheet and program").
+#![tactic(auto)]
+
 ghost use Rattle.std.specs.Prelude.{◌≡◌, ◌+◌, ◌*◌, ◌≤◌};
 ghost use Rattle.machine.specs.Common.{high, low};
 

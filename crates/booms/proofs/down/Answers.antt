@@ -1,0 +1,7 @@
+use Rattle.machine.specs.Plant.{booms_down}
+use borrow.Author.Rules.{rules}
+use Rattle.booms.proofs.down.Goals as goal
+
+pub returns : goal.returns
+unfolding booms_down
+returns c = c.all.ensures

@@ -1,0 +1,7 @@
+use Rattle.machine.specs.Plant.{booms_up}
+use borrow.Author.Rules.{rules}
+use Rattle.booms.proofs.up.Goals as goal
+
+pub returns : goal.returns
+unfolding booms_up
+returns c = c.all.ensures

@@ -1,0 +1,10 @@
+use Rattle.machine.specs.Range.{crossing_in}
+use borrow.Author.Rules.{rules}
+use Rattle.held.proofs.crossing_in.Goals as goal
+
+pub returns : goal.returns
+unfolding crossing_in
+returns c = simp (c.left_limit.ensures, c.phase_in.ensures, c.lamps_in.ensures, c.booms_in.ensures, c.track_in-4.ensures, c.track_in-3.ensures, c.track_in-2.ensures, c.track_in.ensures)
+
+pub held::phase_in : goal.held::phase_in
+held::phase_in c = ?

@@ -1,0 +1,7 @@
+use Rattle.machine.specs.Sheet.{sheet_event}
+use borrow.Author.Rules.{rules}
+use Rattle.reader.proofs.read_event.Goals as goal
+
+pub returns : goal.returns
+unfolding sheet_event
+returns c = rw (← c.requires.0.0)

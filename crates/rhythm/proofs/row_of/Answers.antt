@@ -1,0 +1,20 @@
+use mathlib.Core.Path.{refl}
+use native.Mathlib.Omega.{arith}
+use borrow.Author.Rules.{rules}
+use Rattle.machine.specs.Panel.{lit_at}
+use Rattle.rhythm.proofs.Rows.{by_rhythm, by_beat, as_asked, within_12}
+use Rattle.rhythm.proofs.row_of.Goals as goal
+
+-- the table theorem: each row of the code's table equals document 01's rule at its rhythm and beat, computed: a line for a rhythm, a `refl` for
+-- a row
+pub returns : goal.returns
+unfolding lit_at
+returns c =
+    let rhythm = c.args.rhythm in
+    let beat = c.args.beat in
+    simp c.place.ensures
+    (rw (← as_asked rhythm beat)
+    (by_rhythm rhythm
+    (λ e. by_beat beat (λ f. rw (e, f) refl) (λ f. rw (e, f) refl) (λ f. rw (e, f) refl) (λ f. rw (e, f) refl))
+    (λ e. by_beat beat (λ f. rw (e, f) refl) (λ f. rw (e, f) refl) (λ f. rw (e, f) refl) (λ f. rw (e, f) refl))
+    (λ e. by_beat beat (λ f. rw (e, f) refl) (λ f. rw (e, f) refl) (λ f. rw (e, f) refl) (λ f. rw (e, f) refl))))
