@@ -23,8 +23,8 @@ extern "C" {
 /* The version, 10,000 a + 100 b + c: a is 1, the machine of document 01; b counts the requests of document 02 that are built,
  * c what else has changed for a caller since. wilzhoram_version() gives the library's. The linker knows it by a name that
  * holds the version: a program that calls it, once and anywhere, does not link with a library of another version. */
-#define WILZHORAM_VERSION 11000
-#define wilzhoram_version wilzhoram_version_11000
+#define WILZHORAM_VERSION 10900
+#define wilzhoram_version wilzhoram_version_10900
 
 /* Site book --------------------------------------------------------------------------------------------------------------- */
 
@@ -291,10 +291,10 @@ wilzhoram_distance wilzhoram_board_distance(uint16_t speed, uint16_t retardation
 #define WILZHORAM_STACK_VERSION        64
 #define WILZHORAM_STACK_READ           960
 #define WILZHORAM_STACK_WRITE          320
-#define WILZHORAM_STACK_EVENT          3584
+#define WILZHORAM_STACK_EVENT          4480
 #define WILZHORAM_STACK_DRAW           1280
-#define WILZHORAM_STACK_PREVIEW        3136
-#define WILZHORAM_STACK_RUN            5760
+#define WILZHORAM_STACK_PREVIEW        4032
+#define WILZHORAM_STACK_RUN            3392
 #define WILZHORAM_STACK_AGREE          3264
 #define WILZHORAM_STACK_BOARD_DISTANCE 64
 

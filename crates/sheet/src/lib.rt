@@ -6,7 +6,7 @@ ghost use Rattle.machine.specs.Range.{in_range};
 ghost use Rattle.machine.specs.Sheet.{sheet_event, ran, run, run_panel};
 ghost use Rattle.reader.specs.Whole.{Whole};
 
-use machine::{Crossing, Event, Plant, Run, Site, numbers};
+use machine::{Crossing, Plant, Run, Site, numbers};
 use verdict::Verdict;
 
 // Refused: the number, the plant as it was given and zero counts.
@@ -46,63 +46,44 @@ fn ended(
     }
 }
 
-// Each event of a whole sheet in turn, from a plant in range, with every right (document 02, T-04). Two devices make it fast (T-14):
-// a crossing is held in words (crates/lane), and a tick that only counts is done when its crossing is next looked at (crates/quiet,
-// slot, slots). Inside this crate alone.
+// Each event of a whole sheet in turn, from a plant in range, with every right (document 02, T-04). Inside this crate alone.
 fn play(p: Plant, sheet: &[u8], m: usize) -> Run
     requires { (in_range p ≡ true) × Whole sheet.now m }
     ensures { result ≡ ran p (sheet_event sheet.now) m }
 {
     let site = p.site;
-    let crossings = p.crossings;
-    let mut slots = slots::begin(crossings);
-    let mut least: u64 = 0;
-    let mut now: u64 = 0;
     let mut beat = p.beat;
+    let mut crossings = p.crossings;
     let mut taken: u16 = 0;
     let mut refused: u16 = 0;
-    let mut written: u64 = 0;
+    let mut written: u32 = 0;
     let mut k: usize = 0;
     while k < m {
         let e = reader::event_at(sheet, m, k);
-        k += 1;
-        if e.code == 0 {
-            let v = lane_verdict::judge_tick(e);
-            let Verdict::Take(_) = v else {
-                refused += 1;
-                continue;
-            };
-            taken += 1;
-            beat = (beat + 1) % 4;
-            if now < least {
-                now += 1;
-                continue;
-            }
-            let w = slots::sweep(site, now, slots);
-            let next = w.slots;
-            slots = next;
-            least = w.least;
-            written += w.written;
-            now += 1;
-            continue;
-        }
         let j = (e.crossing % 8) as usize;
         let s = site.entries[j];
-        let z = slots[j];
-        let l = z.lane;
-        let v = lane_verdict::judge(site.n, s, l, e);
+        let c = crossings[j];
+        let v = verdict::judge(site.n, s, c, e);
+        k += 1;
         let Verdict::Take(t) = v else {
             refused += 1;
             continue;
         };
         taken += 1;
-        written += lane_verdict::written_off(l, t);
-        let d = slot::apply(s, now, z, t);
-        slots[j] = d;
-        least = slots::lesser(least, d.due);
+        if t.code == 0 {
+            let all = plant_tick::tick_all(site, beat, crossings);
+            let next = all.crossings;
+            crossings = next;
+            beat = all.beat;
+            written += all.written;
+            continue;
+        }
+        let off = effect::written_off(c, t);
+        let d = effect::apply(s, c, t);
+        crossings[j] = d;
+        written += off;
     }
-    let last = slots::finish(site, now, slots, crossings);
-    ended(site, beat, last, taken, refused, written as u32)
+    ended(site, beat, crossings, taken, refused, written)
 }
 
 // Runs a sheet and draws the panel after its last event. The number is 0, or 15, 4, 2, 4 or 14 with the plant as it was

@@ -2,6 +2,6 @@
 -- else has changed for a caller since.
 use Rattle.std.specs.Prelude.{ℕ}
 
--- 1.10.0
+-- 1.9.0
 abbrev pub version : ℕ
-version = 11000
+version = 10900

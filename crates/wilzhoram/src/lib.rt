@@ -17,10 +17,10 @@ use machine::{Agreement, Answer, BoardDistance, Event, Plant, Preview, Reading, 
 
 // The version of these calls. Its name holds the number, so that a program of another version does not link.
 #[unsafe(no_mangle)]
-pub extern "C" fn wilzhoram_version_11000() -> u32
+pub extern "C" fn wilzhoram_version_10900() -> u32
     ensures { result ≡ version }
 {
-    11000
+    10900
 }
 
 // A site book read: its number and its fresh plant.

@@ -2,7 +2,7 @@
 //! WILZHORAM_BOOM_UP there, `book_length` WILZHORAM_BOOK_LENGTH. ci/boundary holds them to it.
 
 /// The version of these declarations; that of the library is [`version`](crate::version).
-pub const VERSION: u32 = 11000;
+pub const VERSION: u32 = 10900;
 
 pub const MOST_CROSSINGS: usize = 8;
 /// The most events of a sheet.

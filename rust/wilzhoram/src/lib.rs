@@ -132,7 +132,7 @@ mod c {
     use super::{Agreement, Answer, BoardDistance, Event, Plant, Preview, Reading, Run, Site};
 
     extern "C" {
-        #[link_name = "wilzhoram_version_11000"]
+        #[link_name = "wilzhoram_version_10900"]
         pub fn wilzhoram_version() -> u32;
         pub fn wilzhoram_read(book: *const u8, length: usize) -> Reading;
         pub fn wilzhoram_write(site: Site, book: *mut u8, length: usize) -> u8;

@@ -1,149 +1,39 @@
-use Prim.Native.Nat.{◌-◌, ◌<◌}
+use Prim.Native.Nat.{◌≤◌, ◌-◌, ◌%◌}
 use mathlib.Core.Path.{◌≡◌, sym, ◌∙◌, ap}
 use native.Mathlib.Omega.{arith}
 use native.Mathlib.Numerals.{add-one}
+use lib.ListN.{get_or}
+use mathlib.Core.Bool.{true, false}
+use borrow.Author.Tests.{ne_eqb}
+use Rattle.machine.specs.declared.Plant.{Plant}
+use Rattle.machine.specs.Plant.{no_entry}
+use Rattle.machine.specs.Events.{is, refusal}
 use Rattle.machine.specs.Sheet.{sheet_event, ran}
-use Rattle.machine.proofs.Ranges.{plant_reads}
-use Rattle.plant.proofs.Laws.{eight_crossings}
-use Rattle.slots.proofs.Sweeps.{shown_at}
-use Rattle.sheet.proofs.Limits.{small_of, fits_of, tracks_of}
-use Rattle.sheet.proofs.Rolls.{Kept, kept_none, tick_told, kept_refused, kept_quiet, kept_swept, track_place, ready, kept_own}
+use Rattle.plant.proofs.Laws.{eight_crossings, unread}
+use Rattle.verdict.specs.Cases.{verdict}
+use Rattle.sheet.proofs.Runs.{Played, played_none, taken, played_refused, played_tick, own_place, own_room_at, played_own}
 use borrow.Author.Rules.{rules}
 use Rattle.sheet.proofs.play.Statement.{statement}
 use Rattle.sheet.proofs.play.Tie as tie
 
 abbrev invariant-loop : tie.invariant-loop
-invariant-loop sheet m site crossings slots₀ least₀ now₀ beat₀ taken₀ refused₀ written₀ k₀ slots least now beat taken refused written k =
-    Kept (record { site = site; beat = beat₀; crossings = crossings }) (sheet_event sheet) m k beat now slots least taken refused written
+invariant-loop sheet m site beat₀ crossings₀ taken₀ refused₀ written₀ k₀ beat crossings taken refused written k =
+    (k ≤ m) × Played (record { site = site; beat = beat₀; crossings = crossings₀ }) (sheet_event sheet) k (record { site = site; beat = beat; crossings = crossings }) taken refused written
 
 abbrev decreases-loop : tie.decreases-loop
-decreases-loop sheet m site crossings slots₀ least₀ now₀ beat₀ taken₀ refused₀ written₀ k₀ slots least now beat taken refused written k =
+decreases-loop sheet m site beat₀ crossings₀ taken₀ refused₀ written₀ k₀ beat crossings taken refused written k =
     m - k
-
-begin-requires : tie.Need-begin-requires invariant-loop decreases-loop
-begin-requires c κs = let a = c.before.before.before in record { each = λ i l. small_of a.args.p a.requires.0 i l }
 
 loop-holds : tie.Need-loop-init invariant-loop decreases-loop
 loop-holds c =
-    let a = c.before.before.before.before in
-    let p = a.args.p in
-    kept_none p _ _ a.requires.0 (eight_crossings p _ a.well-formed.0) _ c.begin.ensures
+    let a = c.before.before.before in
+    (omega arith, played_none a.args.p _ a.requires.0 (eight_crossings a.args.p _ a.well-formed.0))
 
 event-at-requires : tie.Need-event-at-requires invariant-loop decreases-loop
 event-at-requires c κs =
-    let a = c.before.before.before.before.before.before in
+    let a = c.before.before.before.before.before in
     let b = c.loop-test.true in
     (a.requires.1, omega arith)
-
-add-k : tie.Need-overflow-add-k invariant-loop decreases-loop
-add-k c = search rules
-
-judge-tick-requires : tie.Need-judge-tick-requires invariant-loop decreases-loop
-judge-tick-requires c κs = search rules
-
-enum_told : tie.Need-enum-told invariant-loop decreases-loop
-enum_told c = search rules
-
-enum-told-2 : tie.Need-enum-told-2 invariant-loop decreases-loop
-enum-told-2 c = search rules
-
-add-refused : tie.Need-overflow-add-refused invariant-loop decreases-loop
-add-refused c =
-    let o = c.before.before.before.before.before.before in
-    let l = o.before.loop in
-    let b = o.loop-test.true in
-    let m = o.before.before.before.before.before.before.requires.1.1 in
-    let n = l.invariant.played.counts in
-    omega arith
-
-loop-less : tie.Need-loop-smaller invariant-loop decreases-loop
-loop-less c = search rules
-
-loop-again : tie.Need-loop-preserved invariant-loop decreases-loop
-loop-again c =
-    let o = c.before.before.before.before.before.before in
-    let l = o.before.loop in
-    let b = o.loop-test.true in
-    let e = c.before.before.before.before.before.event-at.ensures in
-    let v = tick_told l.invariant b (rw e at c.before.before.before.if1.true) (rw e at c.before.before.judge-tick.ensures.0) in
-    rw (add-one l.k) (kept_refused l.invariant b v c.enum-told2.given.1)
-
-add-taken : tie.Need-overflow-add-taken invariant-loop decreases-loop
-add-taken c =
-    let o = c.before.before.before.before.before.before in
-    let l = o.before.loop in
-    let b = o.loop-test.true in
-    let m = o.before.before.before.before.before.before.requires.1.1 in
-    let n = l.invariant.played.counts in
-    omega arith
-
-add-beat : tie.Need-overflow-add-beat invariant-loop decreases-loop
-add-beat c =
-    let o = c.before.before.before.before.before.before in
-    let l = o.before.loop in
-    let h = (plant_reads _ l.invariant.played.range).beat in
-    omega (arith, h)
-
-add-now : tie.Need-overflow-add-now invariant-loop decreases-loop
-add-now c =
-    let o = c.before.before.before.before.before.before.before in
-    let l = o.before.loop in
-    let b = o.loop-test.true in
-    let m = o.before.before.before.before.before.before.requires.1.1 in
-    let n = l.invariant.ticks in
-    omega arith
-
-loop-less-2 : tie.Need-loop-smaller-2 invariant-loop decreases-loop
-loop-less-2 c = search rules
-
-loop-again-2 : tie.Need-loop-preserved-2 invariant-loop decreases-loop
-loop-again-2 c =
-    let o = c.before.before.before.before.before.before.before in
-    let l = o.before.loop in
-    let b = o.loop-test.true in
-    let e = c.before.before.before.before.before.before.event-at.ensures in
-    let v = tick_told l.invariant b (rw e at c.before.before.before.before.if1.true) (rw e at c.before.before.before.judge-tick.ensures.0) in
-    rw (add-one l.k, add-one l.now) (kept_quiet l.invariant b v c.before.enum_told.given.1 (rw e at c.before.before.before.before.if1.true) c.if2.true)
-
-sweep-requires : tie.Need-sweep-requires invariant-loop decreases-loop
-sweep-requires c κs =
-    let o = c.before.before.before.before.before.before.before in
-    let l = o.before.loop in
-    let b = o.loop-test.true in
-    let m = o.before.before.before.before.before.before.requires.1.1 in
-    let n = l.invariant.ticks in
-    omega arith
-
-add-written : tie.Need-overflow-add-written invariant-loop decreases-loop
-add-written c =
-    let o = c.before.before.before.before.before.before.before.before.before.before in
-    let l = o.before.loop in
-    let b = o.loop-test.true in
-    let m = o.before.before.before.before.before.before.requires.1.1 in
-    let n = l.invariant.played.bound in
-    let w = c.before.before.sweep.ensures.bound in
-    omega arith
-
-add-now-2 : tie.Need-overflow-add-now-2 invariant-loop decreases-loop
-add-now-2 c =
-    let o = c.before.before.before.before.before.before.before.before.before.before in
-    let l = o.before.loop in
-    let b = o.loop-test.true in
-    let m = o.before.before.before.before.before.before.requires.1.1 in
-    let n = l.invariant.ticks in
-    omega arith
-
-loop-less-3 : tie.Need-loop-smaller-3 invariant-loop decreases-loop
-loop-less-3 c = search rules
-
-loop-again-3 : tie.Need-loop-preserved-3 invariant-loop decreases-loop
-loop-again-3 c =
-    let o = c.before.before.before.before.before.before.before.before.before.before in
-    let l = o.before.loop in
-    let b = o.loop-test.true in
-    let e = c.before.before.before.before.before.before.before.before.before.event-at.ensures in
-    let v = tick_told l.invariant b (rw e at c.before.before.before.before.before.before.before.if1.true) (rw e at c.before.before.before.before.before.before.judge-tick.ensures.0) in
-    rw (add-one l.k, add-one l.now) (kept_swept l.invariant b v c.before.before.before.before.enum_told.given.1 (rw e at c.before.before.before.before.before.before.before.if1.true) c.before.before.sweep.ensures)
 
 cast-j : tie.Need-overflow-cast-j invariant-loop decreases-loop
 cast-j c = search rules
@@ -154,131 +44,140 @@ mul-s c = search rules
 element-copy-out-s : tie.Need-element-copy-out-s invariant-loop decreases-loop
 element-copy-out-s c = search rules
 
-mul-z : tie.Need-overflow-mul-z invariant-loop decreases-loop
-mul-z c = search rules
+mul-c : tie.Need-overflow-mul-c invariant-loop decreases-loop
+mul-c c = search rules
 
-array-copy-out-z : tie.Need-array-copy-out-z invariant-loop decreases-loop
-array-copy-out-z c = search rules
+array-copy-out-c : tie.Need-array-copy-out-c invariant-loop decreases-loop
+array-copy-out-c c = search rules
 
 judge-requires : tie.Need-judge-requires invariant-loop decreases-loop
-judge-requires c κs =
-    let o = c.before.before.before.before.before.before.before in
-    let l = o.before.loop in
-    (c.before.before.before.before.if1.false, tracks_of _ l.invariant.played.range _ (omega arith))
+judge-requires c κs = search rules
+
+add-k : tie.Need-overflow-add-k invariant-loop decreases-loop
+add-k c = search rules
 
 enum-known-v : tie.Need-enum-known-v invariant-loop decreases-loop
 enum-known-v c = search rules
 
-enum-told-3 : tie.Need-enum-told-3 invariant-loop decreases-loop
-enum-told-3 c = search rules
+enum_told : tie.Need-enum-told invariant-loop decreases-loop
+enum_told c = search rules
 
-add-refused-2 : tie.Need-overflow-add-refused-2 invariant-loop decreases-loop
-add-refused-2 c =
-    let o = c.before.before.before.before.before.before.before.before.before.before in
-    let l = o.before.loop in
-    let b = o.loop-test.true in
-    let m = o.before.before.before.before.before.before.requires.1.1 in
-    let n = l.invariant.played.counts in
+add-refused : tie.Need-overflow-add-refused invariant-loop decreases-loop
+add-refused c =
+    let j = c.before.before in
+    let n = j.before.before.before.before.before.before.loop.invariant.1.counts in
+    let m = j.before.before.before.before.before.before.before.before.before.before.requires.1.1 in
+    let b = j.before.before.before.before.before.loop-test.true in
     omega arith
 
-loop-less-4 : tie.Need-loop-smaller-4 invariant-loop decreases-loop
-loop-less-4 c = search rules
+loop-less : tie.Need-loop-smaller invariant-loop decreases-loop
+loop-less c = search rules
 
-loop-again-4 : tie.Need-loop-preserved-4 invariant-loop decreases-loop
-loop-again-4 c =
-    let o = c.before.before.before.before.before.before.before.before.before.before in
-    let l = o.before.loop in
-    let b = o.loop-test.true in
-    let e = c.before.before.before.before.before.before.before.before.before.event-at.ensures in
-    let v = rw e at c.before.before.judge.ensures.0 in
-    rw (add-one l.k) (kept_refused l.invariant b v c.enum-told3.given.1)
+loop-again : tie.Need-loop-preserved invariant-loop decreases-loop
+loop-again c =
+    let j = c.before.before in
+    let l = j.before.before.before.before.before.before.loop in
+    let a = j.before.before.before.before.before.before.before.before.before.before in
+    let p = a.args.p in
+    let f = sheet_event a.args.sheet.now in
+    let q : Plant = record { site = p.site; beat = l.beat; crossings = l.crossings } in
+    let v : j.judge.result ≡ verdict (refusal p.site.n (get_or p.site.entries ((f l.k).crossing % 8) no_entry) (get_or l.crossings ((f l.k).crossing % 8) unread) true (f l.k)) (f l.k) = rw j.before.before.before.before.event-at.ensures at j.judge.ensures.0 in
+    (omega arith, rw (add-one l.k) (played_refused p f l.k q l.taken l.refused l.written l.invariant.1 _ v _ c.enum_told.given.1))
 
-add-taken-2 : tie.Need-overflow-add-taken-2 invariant-loop decreases-loop
-add-taken-2 c =
-    let o = c.before.before.before.before.before.before.before.before.before.before.before in
-    let l = o.before.loop in
-    let b = o.loop-test.true in
-    let m = o.before.before.before.before.before.before.requires.1.1 in
-    let n = l.invariant.played.counts in
+add-taken : tie.Need-overflow-add-taken invariant-loop decreases-loop
+add-taken c =
+    let j = c.before.before.before in
+    let n = j.before.before.before.before.before.before.loop.invariant.1.counts in
+    let m = j.before.before.before.before.before.before.before.before.before.before.requires.1.1 in
+    let b = j.before.before.before.before.before.loop-test.true in
     omega arith
+
+tick-all-requires : tie.Need-tick-all-requires invariant-loop decreases-loop
+tick-all-requires c κs = c.before.before.before.before.before.before.before.before.before.before.before.loop.invariant.1.range
+
+add-written : tie.Need-overflow-add-written invariant-loop decreases-loop
+add-written c =
+    let j = c.before.before.before.before.before.before.before.before in
+    let n = j.before.before.before.before.before.before.loop.invariant.1.bound in
+    let m = j.before.before.before.before.before.before.before.before.before.before.requires.1.1 in
+    let b = j.before.before.before.before.before.loop-test.true in
+    let w = c.before.before.tick-all.ensures.1 in
+    omega arith
+
+loop-less-2 : tie.Need-loop-smaller-2 invariant-loop decreases-loop
+loop-less-2 c = search rules
+
+loop-again-2 : tie.Need-loop-preserved-2 invariant-loop decreases-loop
+loop-again-2 c =
+    let j = c.before.before.before.before.before.before.before.before in
+    let l = j.before.before.before.before.before.before.loop in
+    let a = j.before.before.before.before.before.before.before.before.before.before in
+    let p = a.args.p in
+    let f = sheet_event a.args.sheet.now in
+    let q : Plant = record { site = p.site; beat = l.beat; crossings = l.crossings } in
+    let v : j.judge.result ≡ verdict (refusal p.site.n (get_or p.site.entries ((f l.k).crossing % 8) no_entry) (get_or l.crossings ((f l.k).crossing % 8) unread) true (f l.k)) (f l.k) = rw j.before.before.before.before.event-at.ensures at j.judge.ensures.0 in
+    let t = taken p f l.k q l.taken l.refused l.written l.invariant.1 _ v _ c.before.before.before.before.before.before.v.given.1 in
+    let z : (f l.k).code ≡ 0 = ap (λ x. x.code) t.1 ∙ c.before.before.before.if1.true in
+    let w = c.before.before.tick-all.ensures in
+    (omega arith, rw (add-one l.k, w.0) (played_tick p f l.k q l.taken l.refused l.written l.invariant.1 _ v t.0 z (rw w.0 at w.1)))
 
 written-off-requires : tie.Need-written-off-requires invariant-loop decreases-loop
-written-off-requires c κs =
-    let o = c.before.before.before.before.before.before.before.before.before.before.before in
-    let l = o.before.loop in
-    let b = o.loop-test.true in
-    let e = c.before.before.before.before.before.before.before.before.before.before.event-at.ensures in
-    let v = rw e at c.before.before.before.judge.ensures.0 in
-    track_place l.invariant b v c.before.v.given.1 (rw e at c.before.before.before.before.before.before.before.before.if1.false)
-
-add-written-2 : tie.Need-overflow-add-written-2 invariant-loop decreases-loop
-add-written-2 c =
-    let o = c.before.before.before.before.before.before.before.before.before.before.before.before in
-    let l = o.before.loop in
-    let b = o.loop-test.true in
-    let m = o.before.before.before.before.before.before.requires.1.1 in
-    let n = l.invariant.played.bound in
-    let w = c.written_off.ensures.1 in
-    omega arith
+written-off-requires c κs = search rules
 
 apply-requires : tie.Need-apply-requires invariant-loop decreases-loop
 apply-requires c κs =
-    let o = c.before.before.before.before.before.before.before.before.before.before.before.before in
-    let l = o.before.loop in
-    let b = o.loop-test.true in
-    let m = o.before.before.before.before.before.before.requires.1.1 in
-    let e = c.before.before.before.before.before.before.before.before.before.before.before.event-at.ensures in
-    let v = rw e at c.before.before.before.before.judge.ensures.0 in
-    let n = l.invariant.ticks in
-    (omega arith, rw e (ready l.invariant b v c.before.before.v.given.1 (rw e at c.before.before.before.before.before.before.before.before.before.if1.false)))
+    let j = c.before.before.before.before.before.before in
+    let l = j.before.before.before.before.before.before.loop in
+    let a = j.before.before.before.before.before.before.before.before.before.before in
+    let p = a.args.p in
+    let f = sheet_event a.args.sheet.now in
+    let q : Plant = record { site = p.site; beat = l.beat; crossings = l.crossings } in
+    let v : j.judge.result ≡ verdict (refusal p.site.n (get_or p.site.entries ((f l.k).crossing % 8) no_entry) (get_or l.crossings ((f l.k).crossing % 8) unread) true (f l.k)) (f l.k) = rw j.before.before.before.before.event-at.ensures at j.judge.ensures.0 in
+    let t = taken p f l.k q l.taken l.refused l.written l.invariant.1 _ v _ c.before.before.before.before.v.given.1 in
+    let z : is 0 (f l.k) ≡ false = rw t.1 (ne_eqb _ _ c.before.if1.false) in
+    rw (j.before.before.before.before.event-at.ensures, ← t.1) (own_room_at p f l.k q l.taken l.refused l.written l.invariant.1 _ v t.0 z)
 
-mul-slots : tie.Need-overflow-mul-slots invariant-loop decreases-loop
-mul-slots c = search rules
+mul-crossings : tie.Need-overflow-mul-crossings invariant-loop decreases-loop
+mul-crossings c = search rules
 
-array-set-from-slots : tie.Need-array-set-from-slots invariant-loop decreases-loop
-array-set-from-slots c = search rules
+array-set-from-crossings : tie.Need-array-set-from-crossings invariant-loop decreases-loop
+array-set-from-crossings c = search rules
 
-lesser-requires : tie.Need-lesser-requires invariant-loop decreases-loop
-lesser-requires c κs = search rules
-
-loop-less-5 : tie.Need-loop-smaller-5 invariant-loop decreases-loop
-loop-less-5 c = search rules
-
-loop-again-5 : tie.Need-loop-preserved-5 invariant-loop decreases-loop
-loop-again-5 c =
-    let o = c.before.before.before.before.before.before.before.before.before.before.before.before.before.before in
-    let l = o.before.loop in
-    let b = o.loop-test.true in
-    let e = c.before.before.before.before.before.before.before.before.before.before.before.before.before.event-at.ensures in
-    let v = rw e at c.before.before.before.before.before.before.judge.ensures.0 in
-    let d = rw e at c.before.apply.ensures in
-    let w = c.before.before.written_off.ensures.0 in
-    rw (add-one l.k, e) (kept_own l.invariant b v c.before.before.before.before.v.given.1 (rw e at c.before.before.before.before.before.before.before.before.before.before.before.if1.false) _ d (rw e at w) c.lesser.ensures.0 c.lesser.ensures.1)
-
-finish-requires : tie.Need-finish-requires invariant-loop decreases-loop
-finish-requires c κs =
-    let l = c.before.loop in
-    let p = c.before.before.before.before.before.before.args.p in
-    record { each = λ i b. rw (shown_at p.site l.now l.slots i b) at (fits_of _ l.invariant.played.range i b) }
-
-cast-ended : tie.Need-overflow-cast-ended invariant-loop decreases-loop
-cast-ended c =
-    let l = c.before.before.loop in
-    let n = l.invariant.played.bound in
-    let k = l.invariant.within in
-    let m = c.before.before.before.before.before.before.before.requires.1.1 in
+add-written-2 : tie.Need-overflow-add-written-2 invariant-loop decreases-loop
+add-written-2 c =
+    let j = c.before.before.before.before.before.before.before in
+    let n = j.before.before.before.before.before.before.loop.invariant.1.bound in
+    let m = j.before.before.before.before.before.before.before.before.before.before.requires.1.1 in
+    let b = j.before.before.before.before.before.loop-test.true in
+    let w = c.before.written_off.ensures.1 in
     omega arith
+
+loop-less-3 : tie.Need-loop-smaller-3 invariant-loop decreases-loop
+loop-less-3 c = search rules
+
+loop-again-3 : tie.Need-loop-preserved-3 invariant-loop decreases-loop
+loop-again-3 c =
+    let j = c.before.before.before.before.before.before.before in
+    let l = j.before.before.before.before.before.before.loop in
+    let a = j.before.before.before.before.before.before.before.before.before.before in
+    let p = a.args.p in
+    let f = sheet_event a.args.sheet.now in
+    let q : Plant = record { site = p.site; beat = l.beat; crossings = l.crossings } in
+    let v : j.judge.result ≡ verdict (refusal p.site.n (get_or p.site.entries ((f l.k).crossing % 8) no_entry) (get_or l.crossings ((f l.k).crossing % 8) unread) true (f l.k)) (f l.k) = rw j.before.before.before.before.event-at.ensures at j.judge.ensures.0 in
+    let t = taken p f l.k q l.taken l.refused l.written l.invariant.1 _ v _ c.before.before.before.before.before.v.given.1 in
+    let z : is 0 (f l.k) ≡ false = rw t.1 (ne_eqb _ _ c.before.before.if1.false) in
+    let o = own_place p f l.k q l.taken l.refused l.written l.invariant.1 _ v t.0 z in
+    (omega arith, rw (add-one l.k, c.apply.ensures, c.before.written_off.ensures.0, j.before.before.before.before.event-at.ensures, ← t.1, o.1, o.0) (played_own p f l.k q l.taken l.refused l.written l.invariant.1 _ v t.0 z))
 
 ended-requires : tie.Need-ended-requires invariant-loop decreases-loop
 ended-requires c κs = search rules
 
 returns : tie.Need-returns invariant-loop decreases-loop
 returns c =
-    let l = c.before.before.before.loop in
-    let a = c.before.before.before.before.before.before.before.before in
-    let k = l.invariant.within in
+    let l = c.before.before.loop in
+    let a = c.before.before.before.before.before.before in
     let end : l.k ≡ a.args.m = omega arith in
-    rw c.before.finish.ensures at c.ended.ensures ∙ sym l.invariant.played.same ∙ ap (ran a.args.p (sheet_event a.args.sheet.now)) end
+    c.ended.ensures ∙ sym l.invariant.1.same ∙ ap (ran a.args.p (sheet_event a.args.sheet.now)) end
 
 pub play_spec : {M : Type 1} → statement M
 play_spec =
@@ -286,47 +185,31 @@ play_spec =
     (tie.spec
     invariant-loop
     decreases-loop
-    begin-requires
     loop-holds
     event-at-requires
+    cast-j
+    mul-s
+    element-copy-out-s
+    mul-c
+    array-copy-out-c
+    judge-requires
     add-k
-    judge-tick-requires
+    enum-known-v
     enum_told
-    enum-told-2
     add-refused
     loop-less
     loop-again
     add-taken
-    add-beat
-    add-now
+    tick-all-requires
+    add-written
     loop-less-2
     loop-again-2
-    sweep-requires
-    add-written
-    add-now-2
+    written-off-requires
+    apply-requires
+    mul-crossings
+    array-set-from-crossings
+    add-written-2
     loop-less-3
     loop-again-3
-    cast-j
-    mul-s
-    element-copy-out-s
-    mul-z
-    array-copy-out-z
-    judge-requires
-    enum-known-v
-    enum-told-3
-    add-refused-2
-    loop-less-4
-    loop-again-4
-    add-taken-2
-    written-off-requires
-    add-written-2
-    apply-requires
-    mul-slots
-    array-set-from-slots
-    lesser-requires
-    loop-less-5
-    loop-again-5
-    finish-requires
-    cast-ended
     ended-requires
     returns)
