@@ -12,11 +12,11 @@ use Rattle.train.proofs.passage.Goals as goal
 
 pub returns-then-calling-eq0 : goal.returns-then-calling-eq0
 returns-then-calling-eq0 c =
-    let a = c.before in
-    sym (passage_waited a.args.s a.args.t2 a.args.e _ a.well-formed.1.0 a.requires.0 c.if-calling-eq0.true)
+    let a = c in
+    sym (passage_waited a.args.s a.args.c a.args.e _ a.well_formed.1.0 a.requires.0 c.if-calling-eq0.true)
 
 pub returns : goal.returns
 unfolding cancels
 returns c =
-    let a = c.before in
-    simp (act_stores a.args.s a.args.t2 a.args.e _ a.well-formed.1.0, a.requires.0, ne_eqb _ _ c.if-calling-eq0.false, sub-one, sub-zero, set-get_or)
+    let a = c in
+    simp (act_stores a.args.s a.args.c a.args.e _ a.well_formed.1.0, a.requires.0, ne_eqb _ _ c.if-calling-eq0.false, sub-one, sub-zero, set-get_or)

@@ -9,11 +9,11 @@ use Rattle.train.proofs.route.Goals as goal
 
 pub returns-then-set-eq1 : goal.returns-then-set-eq1
 returns-then-set-eq1 c =
-    let a = c.before in
-    sym (route_set a.args.s a.args.t2 a.args.e _ a.well-formed.1.0 a.requires.0 (eq-eqb _ _ c.if-set-eq1.true))
+    let a = c in
+    sym (route_set a.args.s a.args.c a.args.e _ a.well_formed.1.0 a.requires.0 (eq-eqb _ _ c.if-set-eq1.true))
 
 pub returns : goal.returns
 unfolding cancels
 returns c =
-    let a = c.before in
-    simp (act_stores a.args.s a.args.t2 a.args.e _ a.well-formed.1.0, a.requires.0, ne_eqb _ _ c.if-set-eq1.false)
+    let a = c in
+    simp (act_stores a.args.s a.args.c a.args.e _ a.well_formed.1.0, a.requires.0, ne_eqb _ _ c.if-set-eq1.false)

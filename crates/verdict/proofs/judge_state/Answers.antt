@@ -14,9 +14,9 @@ returns-then-e-eq2 c = simp (c.if-e-eq2.true, c.refuse_if-then-e-eq2.ensures, c.
 
 pub returns-then-e-eq4 : goal.returns-then-e-eq4
 returns-then-e-eq4 c =
-    let before = c.before in
-    let a = before.before.before.before.before.before.before.before.args in
-    rw (operator_hold a.s a.c a.e before.if3.true) (rw (← c.held_by_train.ensures) c.refuse_if-then-e-eq4.ensures)
+    let before = c in
+    let a = before.args in
+    rw (operator_hold a.s a.c a.e before.if-e-eq4.true) (rw (← c.held_by_train.ensures) c.refuse_if-then-e-eq4.ensures)
 
 pub returns-then-e-eq7 : goal.returns-then-e-eq7
 unfolding state_refusal

@@ -1,0 +1,16 @@
+use Rattle.train.proofs.Stores.{act_stores}
+use Rattle.machine.specs.Effects.{cancels}
+use borrow.Author.Tests.{ne_eqb}
+use Rattle.effect.proofs.kiosk_hold.Goals as goal
+
+pub returns-then-kiosk-eq1 : goal.returns-then-kiosk-eq1
+unfolding cancels
+returns-then-kiosk-eq1 c =
+    let a = c in
+    simp (act_stores a.args.s a.args.c a.args.e _ a.well_formed.1.0, a.requires, c.if-kiosk-eq1.true)
+
+pub returns : goal.returns
+unfolding cancels
+returns c =
+    let a = c in
+    simp (act_stores a.args.s a.args.c a.args.e _ a.well_formed.1.0, a.requires, ne_eqb _ _ c.if-kiosk-eq1.false)
