@@ -14,7 +14,7 @@ use Rattle.machine.specs.contracts.Plant.{the_type}
 
 -- a plant of the code has eight crossings
 pub eight_crossings : (p : Plant) (vs : List Val) → Is (row the_type) p vs → length p.crossings ≡ 8
-eight_crossings p vs i = simp length-map at i.1.1.1.1.0.1.0.1
+eight_crossings p vs i = assumption i
 
 -- within a list, what a read past its end would give does not count
 pub within : {A : Type 0} (l : List A) (i : ℕ) (d e : A) → i < length l → get_or l i d ≡ get_or l i e
