@@ -9,32 +9,28 @@ use Rattle.board.proofs.distance.Goals as goal
 
 pub slowing-requires : goal.slowing-requires
 slowing-requires c =
-    let a = c in
-    let e = rw (to_z-of_z w16 a.args.gradient a.ranges.gradient) at c.number-number.ensures in
-    let i = in_range a.args.speed a.args.retardation a.args.gradient (sym e ∙ c.if-number-eq0.true) in
-    rw (to_z-of_z w16 a.args.gradient a.ranges.gradient) (i.1, i.2)
+    let e = rw (to_z-of_z w16 c.args.gradient c.ranges.gradient) at c.number-number.ensures in
+    let i = in_range c.args.speed c.args.retardation c.args.gradient (sym e ∙ c.if-number-eq0.true) in
+    rw (to_z-of_z w16 c.args.gradient c.ranges.gradient) (i.1, i.2)
 
 pub metres-distance-requires : goal.metres-distance-requires
 metres-distance-requires c =
-    let a = c in
-    let e = rw (to_z-of_z w16 a.args.gradient a.ranges.gradient) at c.number-number.ensures in
-    let q = rw (to_z-of_z w16 a.args.gradient a.ranges.gradient) at c.slowing.ensures in
-    let i = in_range a.args.speed a.args.retardation a.args.gradient (sym e ∙ c.if-number-eq0.true) in
-    let b = slowing_bounds a.args.retardation a.args.gradient i.1 i.2 in
+    let e = rw (to_z-of_z w16 c.args.gradient c.ranges.gradient) at c.number-number.ensures in
+    let q = rw (to_z-of_z w16 c.args.gradient c.ranges.gradient) at c.slowing.ensures in
+    let i = in_range c.args.speed c.args.retardation c.args.gradient (sym e ∙ c.if-number-eq0.true) in
+    let b = slowing_bounds c.args.retardation c.args.gradient i.1 i.2 in
     (i.0.1, rw q b.0, rw q b.1)
 
 pub returns-then-number-eq0 : goal.returns-then-number-eq0
 returns-then-number-eq0 c =
-    let a = c in
-    let e = rw (to_z-of_z w16 a.args.gradient a.ranges.gradient) at c.number-number.ensures in
-    let q = rw (to_z-of_z w16 a.args.gradient a.ranges.gradient) at c.slowing.ensures in
+    let e = rw (to_z-of_z w16 c.args.gradient c.ranges.gradient) at c.number-number.ensures in
+    let q = rw (to_z-of_z w16 c.args.gradient c.ranges.gradient) at c.slowing.ensures in
     let zero = sym e ∙ c.if-number-eq0.true in
-    let i = in_range a.args.speed a.args.retardation a.args.gradient zero in
-    ap taken ((rw q at c.metres-distance.ensures) ∙ sym (distance_is a.args.speed a.args.retardation a.args.gradient i.1 i.2))
-    ∙ sym (answer_taken a.args.speed a.args.retardation a.args.gradient zero)
+    let i = in_range c.args.speed c.args.retardation c.args.gradient zero in
+    ap taken ((rw q at c.metres-distance.ensures) ∙ sym (distance_is c.args.speed c.args.retardation c.args.gradient i.1 i.2))
+    ∙ sym (answer_taken c.args.speed c.args.retardation c.args.gradient zero)
 
 pub returns : goal.returns
 returns c =
-    let a = c in
-    let e = rw (to_z-of_z w16 a.args.gradient a.ranges.gradient) at c.number-number.ensures in
-    sym (answer_refused a.args.speed a.args.retardation a.args.gradient c.number-number.result c.if-number-eq0.false (sym e))
+    let e = rw (to_z-of_z w16 c.args.gradient c.ranges.gradient) at c.number-number.ensures in
+    sym (answer_refused c.args.speed c.args.retardation c.args.gradient c.number-number.result c.if-number-eq0.false (sym e))

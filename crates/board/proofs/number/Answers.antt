@@ -6,14 +6,12 @@ use Rattle.board.proofs.number.Goals as goal
 pub returns-then-gradient : goal.returns-then-gradient
 unfolding board_number speed_in retardation_in gradient_in
 returns-then-gradient c =
-    let a = c in
-    simp (rw (to_z-of_z w16 a.args.gradient a.ranges.gradient) at c.if-gradient.true, c.if-retardation.true, c.if-speed.true)
+    simp (rw (to_z-of_z w16 c.args.gradient c.ranges.gradient) at c.if-gradient.true, c.if-retardation.true, c.if-speed.true)
 
 pub returns-then-retardation : goal.returns-then-retardation
 unfolding board_number speed_in retardation_in gradient_in
 returns-then-retardation c =
-    let a = c in
-    simp (rw (to_z-of_z w16 a.args.gradient a.ranges.gradient) at c.if-gradient.false, c.if-retardation.true, c.if-speed.true)
+    simp (rw (to_z-of_z w16 c.args.gradient c.ranges.gradient) at c.if-gradient.false, c.if-retardation.true, c.if-speed.true)
 
 pub returns-then-speed : goal.returns-then-speed
 unfolding board_number speed_in retardation_in

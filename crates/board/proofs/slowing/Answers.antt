@@ -6,6 +6,5 @@ use Rattle.board.proofs.slowing.Goals as goal
 
 pub returns : goal.returns
 returns c =
-    let a = c in
-    let e = rw (to_z-of_z w16 a.args.gradient a.ranges.gradient) at c.raised.ensures in
-    omega (arith, e, slowing_is a.args.retardation a.args.gradient a.requires.0 a.requires.1)
+    let e = rw (to_z-of_z w16 c.args.gradient c.ranges.gradient) at c.raised.ensures in
+    omega (arith, e, slowing_is c.args.retardation c.args.gradient c.requires.0 c.requires.1)

@@ -11,7 +11,6 @@ use Rattle.book_read.proofs.book_site.Goals as goal
 pub returns : goal.returns
 unfolding book_site
 returns c =
-    let a = c in
-    let b = a.args.b.now in
+    let b = c.args.b.now in
     let h : c.loop-i.i ≡ book_size b = omega arith in
-    simp (c.loop-i.invariant.1, h, first_tab (at b) none no_entry (book_size b) 8 refl a.requires.1 (λ i l m. rw (le-ltb i (book_size b) l) (sym (getD_tab 8 (λ j. no_entry) no_entry i m))))
+    simp (c.loop-i.invariant.1, h, first_tab (at b) none no_entry (book_size b) 8 refl c.requires.1 (λ i l m. rw (le-ltb i (book_size b) l) (sym (getD_tab 8 (λ j. no_entry) no_entry i m))))

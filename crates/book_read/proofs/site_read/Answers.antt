@@ -6,6 +6,5 @@ use Rattle.book_read.proofs.site_read.Goals as goal
 
 pub book_site-requires : goal.book_site-requires
 book_site-requires c =
-    let a = c in
-    let h = book_reads a.args.b.now (sym a.requires ∙ c.if-number-eq0.true) in
-    (h.size, at_most_eight (book_size a.args.b.now) h.count)
+    let h = book_reads c.args.b.now (sym c.requires ∙ c.if-number-eq0.true) in
+    (h.size, at_most_eight (book_size c.args.b.now) h.count)

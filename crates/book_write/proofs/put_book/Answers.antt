@@ -12,14 +12,13 @@ use Rattle.book_write.proofs.put_book.Goals as goal
 pub returns : goal.returns
 unfolding book first_part second_part
 returns c =
-    let a = c in
-    let s = a.args.s in
+    let s = c.args.s in
     let f = concat_below s.n (λ j. first_part (setting s j)) in
     let g = concat_below s.n (λ j. second_part (setting s j)) in
-    let o = set a.args.out.now 0 s.n in
+    let o = set c.args.out.now 0 s.n in
     let size : length f ≡ 3 * s.n = length_concat 3 (λ j. first_part (setting s j)) (λ j. refl) s.n in
     c.put_seconds.ensures
     ∙ ap {B = List ℕ} (λ l. sets l (1 + 3 * s.n) g) c.put_firsts.ensures
     ∙ ap {B = List ℕ} (λ k. sets (sets o 1 f) (1 + k) g) (sym size)
     ∙ sets_append f g o 1
-    ∙ sets_whole (book s) a.args.out.now (a.requires.1 ∙ sym (book_bytes s))
+    ∙ sets_whole (book s) c.args.out.now (c.requires.1 ∙ sym (book_bytes s))
