@@ -1,41 +1,47 @@
 // Reads site.bin and sheet.bin, runs the sheet from the fresh plant, and prints the counts and the panel.
 #![tactic(auto)]
 
-ghost use Rattle.std.specs.Prelude.{◌+◌, ◌*◌, ◌≤◌, length};
-ghost use Rattle.io.specs.Counts.{IsPrefixLen};
+ghost use Rattle.std.specs.Prelude.{◌+◌, ◌*◌, ◌≡◌, ◌≤◌, length, take};
 
-use libc::STDOUT_FILENO;
 use report::Outcome;
+use std::io::Read;
+use std::rt::Files;
+use std::{fs, io};
 
 // The bytes of a file at the start of buf, as many as there is room for; none where it cannot be opened.
-fn load(path: &[u8], buf: &mut [u8]) -> usize
-    ensures { IsPrefixLen result buf.new }
+fn load(rt: &impl Files, path: &str, buf: &mut [u8]) -> usize
+    ensures bound { result ≤ length buf.new }
+    ensures len { result ≡ length (take result buf.new) }
 {
-    let fd = os::open_read(path);
-    if fd < 0 {
-        return io::count(-1, buf);
+    match fs::open(rt, path) {
+        Ok(mut file) => read_full(&mut file, buf),
+        Err(_) => 0,
     }
-    let n = io::read_full(fd, buf);
-    libc::close(fd);
-    n
+}
+
+// Reads until buf is full, the input ends or a read fails: how many bytes now stand at the start of buf.
+fn read_full(from: &mut impl Read, buf: &mut [u8]) -> usize
+    ensures bound { result ≤ length buf.new }
+    ensures len { result ≡ length (take result buf.new) }
+{
+    let mut done = 0;
+    while done < buf.len() {
+        match from.read(&mut buf[done..]) {
+            Ok(0) | Err(_) => break,
+            Ok(n) => done += n,
+        }
+    }
+    done
 }
 
 // The line of a refused site or sheet.
-fn print_refused(number: u8) {
-    io::write_all(STDOUT_FILENO, b"refused ");
-    io::print_decimal(STDOUT_FILENO, number as u64);
-    io::write_all(STDOUT_FILENO, b"\n");
+fn print_refused(rt: &impl Print, number: u8) -> io::Result<()> {
+    println!(rt; "refused {number}")
 }
 
 // The line of the counts.
-fn print_counts(taken: u16, refused: u16, written: u32) {
-    io::write_all(STDOUT_FILENO, b"taken ");
-    io::print_decimal(STDOUT_FILENO, taken as u64);
-    io::write_all(STDOUT_FILENO, b" refused ");
-    io::print_decimal(STDOUT_FILENO, refused as u64);
-    io::write_all(STDOUT_FILENO, b" written_off ");
-    io::print_decimal(STDOUT_FILENO, written as u64);
-    io::write_all(STDOUT_FILENO, b"\n");
+fn print_counts(rt: &impl Print, taken: u16, refused: u16, written: u32) -> io::Result<()> {
+    println!(rt; "taken {taken} refused {refused} written-off {written}")
 }
 
 // A byte as a wider number.
@@ -44,49 +50,42 @@ fn wide(x: u8) -> u64 {
 }
 
 // The line of crossing i. Inside this crate alone: the panel has its sixteen bytes.
-fn print_row(panel: &[u8], i: usize)
+fn print_row(rt: &impl Print, panel: &[u8], i: usize) -> io::Result<()>
     requires { (16 * i + 16 ≤ length panel.now) × (i ≤ 255) }
 {
-    io::print_decimal(STDOUT_FILENO, i as u64);
-    io::write_all(STDOUT_FILENO, b":");
-    let mut j: usize = 0;
-    while j < 16 {
-        io::write_all(STDOUT_FILENO, b" ");
-        io::print_hex(STDOUT_FILENO, wide(panel[16 * i + j]), 2);
-        j = j + 1;
+    print!(rt; "{i}:")?;
+    for j in 0..16 {
+        print!(rt; " {:02x}", wide(panel[16 * i + j]))?;
     }
-    io::write_all(STDOUT_FILENO, b"\n");
+    println!(rt;)
 }
 
 // The lines of the first n crossings, as far as the panel has them.
-fn print_panel(panel: &[u8], n: u8) {
-    let count = n as usize;
-    let mut i: usize = 0;
-    while i < count {
+fn print_panel(rt: &impl Print, panel: &[u8], n: u8) -> io::Result<()> {
+    for i in 0..n as usize {
         if 16 * i + 16 <= panel.len() {
-            print_row(panel, i);
+            print_row(rt, panel, i)?;
         }
-        i = i + 1;
     }
+    Ok(())
 }
 
 // All that is printed.
-fn print(r: Outcome, panel: &[u8]) {
+fn print(rt: &impl Print, r: Outcome, panel: &[u8]) -> io::Result<()> {
     if r.number > 0 {
-        print_refused(r.number);
-        return;
+        return print_refused(rt, r.number);
     }
-    print_counts(r.taken, r.refused, r.written);
-    print_panel(panel, r.n);
+    print_counts(rt, r.taken, r.refused, r.written)?;
+    print_panel(rt, panel, r.n)
 }
 
 // The buffers have one byte more than the longest book and the longest sheet, so that a longer file has a wrong length.
-fn main() {
+fn main(rt: HostRuntime) -> io::Result<()> {
     let mut site = [0u8; 74];
     let mut sheet = [0u8; 16387];
     let mut panel = [0u8; 128];
-    let a = load(b"site.bin", &mut site);
-    let b = load(b"sheet.bin", &mut sheet);
+    let a = load(&rt, "site.bin", &mut site);
+    let b = load(&rt, "sheet.bin", &mut sheet);
     let r = report::report(&site[..a], &sheet[..b], &mut panel);
-    print(r, &panel);
+    print(&rt, r, &panel)
 }
