@@ -20,7 +20,7 @@ use Rattle.machine.proofs.Ranges.{NoCrossing}
 use Rattle.machine.proofs.Stays.{zero_settles, zero_releases}
 use Rattle.tick.proofs.Still.{Tracks, still_ticks}
 
-pub each_tracks : (l : List Crossing) (us : List Val) (i : ℕ) → shadow (each Crossing (row the_type).own l us) → Tracks (get_or l i no_crossing)
+pub each_tracks : (l : List Crossing) (us : List Val) (i : ℕ) → shadow (each Crossing (row the_type).own_val l us) → Tracks (get_or l i no_crossing)
 each_tracks [] us i p = record { calling = refl; waiting = refl; unsure = refl }
 each_tracks (x ∷ l) [] i p = absurd p
 each_tracks (x ∷ l) (u ∷ us) zero p = record { calling = search (p.0, rules); waiting = search (p.0, rules); unsure = search (p.0, rules) }

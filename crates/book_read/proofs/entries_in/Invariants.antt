@@ -1,11 +1,8 @@
 use mathlib.Core.Path.{◌≡◌}
 use Prim.Native.Nat.{◌-◌, ◌≤◌}
-use native.Mathlib.Omega.{arith}
-use native.Mathlib.Numerals.{add-one}
 use Rattle.machine.specs.Common.{all_below}
 use Rattle.machine.specs.Range.{entry_in}
 use Rattle.machine.specs.SiteBook.{book_entry, book_size}
-use borrow.Author.Rules.{rules}
 use Rattle.book_read.proofs.entries_in.Given as goal
 
 abbrev pub invariant-loop-i : goal.invariant-loop-i

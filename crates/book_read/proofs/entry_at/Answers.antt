@@ -1,5 +1,4 @@
 use Rattle.machine.specs.SiteBook.{book_entry}
-use borrow.Author.Rules.{rules}
 use Rattle.book_read.proofs.entry_at.Goals as goal
 
 pub returns : goal.returns

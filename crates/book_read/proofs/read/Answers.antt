@@ -1,5 +1,4 @@
 use Rattle.machine.specs.SiteBook.{read}
-use borrow.Author.Rules.{rules}
 use Rattle.book_read.proofs.read.Goals as goal
 
 pub returns : goal.returns

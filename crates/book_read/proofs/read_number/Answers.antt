@@ -1,7 +1,5 @@
-use native.Mathlib.Omega.{arith}
 use borrow.Author.Tests.{eq-eqb, ne_eqb}
 use Rattle.machine.specs.SiteBook.{read_number}
-use borrow.Author.Rules.{rules}
 use Rattle.book_read.proofs.read_number.Goals as goal
 
 pub returns-then-b-eq0 : goal.returns-then-b-eq0

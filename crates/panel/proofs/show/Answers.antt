@@ -1,0 +1,35 @@
+use Rattle.machine.specs.Panel.{view}
+use Rattle.plant.proofs.Laws.{eight_crossings, crossing_read}
+use Prim.Native.Nat.{◌<◌}
+use mathlib.Core.Path.{◌≡◌, sym, ◌∙◌}
+use native.Mathlib.Omega.{arith}
+use native.Mathlib.Nat.{zero-add}
+use lib.ListN.{length}
+use Rattle.panel.proofs.Rows.{row_at, row_length, view_length}
+use Rattle.machine.proofs.Tools.{next_row, sets_whole}
+use Rattle.panel.proofs.show.Goals as goal
+
+pub loop-i-preserved : goal.loop-i-preserved
+loop-i-preserved c =
+    let p = c.args.p in
+    let k = c.args.sender in
+    let l = c.loop-i in
+    let w = l.invariant in
+    let r = c.put in
+    let eight = eight_crossings p _ c.well_formed.0 in
+    let few : l.i < length p.crossings = omega (arith, c.requires) in (
+      omega arith,
+      (
+        next_row 16 (row_at k p) (row_length k p) c.args.out.now 0 l.i w.1.0 (r.ensures ∙ rw (c.seen-row.ensures, c.row.ensures, crossing_read p.crossings l.i few, zero-add)),
+        r.auto.out ∙ w.1.1,
+      ),
+    )
+
+pub returns : goal.returns
+unfolding view
+returns c =
+    let p = c.args.p in
+    let k = c.args.sender in
+    let l = c.loop-i in
+    let end : l.i ≡ p.site.n = omega arith in
+    l.invariant.1.0 ∙ rw end (sets_whole (view k p) c.args.out.now (c.requires.1 ∙ sym (view_length k p)))
