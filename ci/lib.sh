@@ -1,140 +1,114 @@
-# ci/lib.sh: how ci/edits and ci/own try an edit. They source it at the top of the repository and end with `main`.
-# Of each crate a copy without an edit is checked first: that must be proved, and the modules that it checked are kept. Then each edit is
-# made in a copy of that copy: what it does not reach is taken from the kept modules, what it reaches is checked, and must be refused.
-# One harmless edit must be proved, so that a runner which calls everything refused is found out.
-# The runner sets `runner`, its name, and `harmless`, a crate and the harmless edit of it, and has four functions:
-#   lay_out CRATE DIR        puts the crates of the copy below DIR/crates
-#   seed CRATE KEPT          puts modules that are checked already into the new folder KEPT, if there are any
-#   check CRATE DIR KEPT     checks CRATE of the copy over the modules of KEPT, and keeps there what it checked
+# ci/lib.sh: how ci/edits and ci/own try their edits. They source it at the top of the repository and end with `main`.
+# A runner lays out a repository of its own in TMPDIR, outside this one: the crates that it tries, with their edits in must-fail, and
+# those below them. `rt must-fail` tries them there, as many at once as there are processors, or EDITS_AT_ONCE: it proves each crate
+# without an edit first; each edit is then checked over the modules that this proved, and must be refused. What was refused once rt
+# knows on this machine for as long as nothing changes that the edit stands on.
+# One harmless edit must not be refused, so that a runner which calls everything refused is found out.
+# The runner sets `runner`, its name, and `harmless`, a crate and the harmless edit of it, and has three functions:
+#   lay_out CRATE            puts CRATE and what it rests on into $repo/crates, and their lines into $repo/crates.txt
 #   edits_of CRATE           prints the edits, one to a line
-# The copies, each with its log, are in target/RUNNER/CRATE/LABEL; the kept modules are in TMPDIR and go at the end.
+#   name_of CRATE            prints its name in that repository
+#   as_laid_out CRATE        a filter: the text of an edit of CRATE, as the files of that repository have it
+# What rt said of each edit is left in target/RUNNER.log, which ci/refusals reads.
 
-# the parts of CRATE that the prover reads, below DIR/crates
-copy_crate() { # CRATE DIR
-    mkdir -p "$2/crates/$1"
-    for part in src specs proofs; do
-        [ ! -d "crates/$1/$part" ] || cp -R "crates/$1/$part" "$2/crates/$1/$part"
+# the crates that CRATE rests on, the lowest first and itself last, one to a line
+needed() { # CRATE
+    awk -v want="$1" '
+        { sub(/#.*/, ""); name = $1; if (name == "") next; sub(/:.*/, "", name); $1 = ""; sub(/^.*:/, ""); deps[name] = $0 }
+        function add(n,   k, part, i) {
+            if (seen[n]++ || !(n in deps)) return
+            k = split(deps[n], part, " ")
+            for (i = 1; i <= k; i++) add(part[i])
+            print n
+        }
+        END { add(want) }' crates.txt
+}
+
+# puts CRATE and its edits into the repository; the edits' names go to $room/edits, with those of the runner before them
+put() { # CRATE EDIT..
+    crate=$1
+    shift
+    name=$(name_of "$crate")
+    [ -d "$repo/crates/$name" ] || lay_out "$crate"
+    mkdir -p "$repo/crates/$name/must-fail"
+    for e in "$@"; do
+        label=$(basename "$e")
+        case $e in edits/harmless/*) label=harmless.edit ;; esac
+        as_laid_out "$crate" <"$e" >"$repo/crates/$name/must-fail/$label"
+        echo "$name/$label $crate/${label%.edit}" >>"$room/edits"
     done
 }
 
-# replaces OLD by NEW, one place exactly, in FILE
-replace() { # FILE OLD NEW
-    OLD=$2 NEW=$3 awk '
-        { text = text $0 "\n" }
+# what became of each edit, by the log of rt: a line for each, and one that counts; the status is 1 if one is not as it must be
+judge() { # LOG
+    awk -v runner="$runner" '
+        NR == FNR { shown[$1] = $2; order[++edits] = $1; next }
+        # a crate that is not proved without an edit
+        /^rt: [a-z_0-9]*: (the check that its must-fail edits begin with did not end well|it is not proved again)/ {
+            name = $2; sub(/:$/, "", name)
+            unproved[name] = 1
+        }
+        /^rt: [a-z_0-9]*: [0-9]+ of its [0-9]+ must-fail edits were tried by an earlier run/ {
+            print runner " " $2 " " $3 " of " $6 " edits were tried by an earlier run on this machine, and nothing that they stand on has changed"
+        }
+        /^rt: must-fail / {
+            label = $3; sub(/:$/, "", label)
+            text = $0; sub(/^rt: must-fail [^ ]*: /, "", text)
+            if (label in shown) said[label] = text
+        }
+        function cause(text,   place, law) {
+            if (text !~ /^refused, as it must be: /) return ""
+            sub(/^refused, as it must be: /, "", text); sub(/^note: /, "", text); sub(/^\.\//, "", text)
+            if (!match(text, /^[^ ]*:[0-9]+:[0-9]+: /)) return ""
+            place = substr(text, 1, RLENGTH - 2); sub(/:[0-9]+$/, "", place)
+            return place (match(text, /`[^`]*`/) ? " " substr(text, RSTART, RLENGTH) : "")
+        }
         END {
-            old = ENVIRON["OLD"]; at = index(text, old)
-            if (old == "" || !at) exit 3
-            rest = substr(text, at + length(old))
-            if (index(rest, old)) exit 4
-            printf "%s%s%s", substr(text, 1, at - 1), ENVIRON["NEW"], rest
-        }' "$1" >"$1.new" && mv "$1.new" "$1"
+            for (i = 1; i <= edits; i++) {
+                label = order[i]; text = said[label]; at = cause(text); name = label; sub(/\/.*/, "", name)
+                calm = label ~ /\/harmless\.edit$/
+                if (name in unproved) verdict = "NOT PROVED without an edit: run rt check in crates/" shown[label]
+                else if (text == "") verdict = "NOT TRIED: rt said nothing of it"
+                else if (at ~ /^specs\//) verdict = "BAD EDIT: what it makes is no definition, first at " at
+                else if (text ~ /^refused, as it must be/) verdict = "refused" (at != "" ? ", first at " at : substr(text, length("refused, as it must be") + 1))
+                else verdict = text
+                if (calm && verdict ~ /^NOT REFUSED/) { verdict = "harmless, and proved as it must be"; fine++ }
+                else if (calm && verdict ~ /^refused/) verdict = "REFUSED though harmless" substr(verdict, 8)
+                else if (verdict ~ /^refused/) refused++
+                print runner " " shown[label] ": " verdict
+            }
+            others = edits - refused - fine
+            print runner ": " refused + 0 " edits refused, " others " not as they must be"
+            exit others > 0
+        }' "$room/edits" "$1"
 }
 
-# makes the replacements of EDIT in the copy at DIR; an edit of crates/CRATE names its files from there, one of edits/ from the top
-make_edit() { # EDIT DIR
-    base=$2
-    case $1 in crates/*) base=$2/${1%/*/*} ;; esac
-    file='' old='' pairs=0
-    while IFS= read -r line || [ -n "$line" ]; do
-        case $line in
-        'file: '*) file=${line#file: } ;;
-        'old: '*) old=${line#old: } ;;
-        'new:'*)
-            new=${line#new:}
-            replace "$base/$file" "$old" "${new# }" || return 1
-            pairs=$((pairs + 1))
-            ;;
-        esac
-    done <"$1"
-    [ "$pairs" -gt 0 ]
-}
-
-# of each LOG the first thing that is wrong, and not only a consequence of another: log, place and message, with tabs between
-causes() { # LOG..
-    awk '
-        FNR == 1 { found = 0; copy = FILENAME; sub(/[^\/]*$/, "", copy) }
-        found { next }
-        /: error: / && !/was not admitted/ || /^note: [^ ]*:[0-9]+:[0-9]+: it is not proved/ {
-            found = 1
-            text = $0; sub(/^note: /, "", text)
-            place = text; sub(/:[0-9]+: .*/, "", place)
-            sub(/^[^ ]*:[0-9]+: (error: )?/, "", text)
-            at = index(place, copy); if (at) place = substr(place, at + length(copy))
-            sub(/^crates\//, "", place)
-            print FILENAME "\t" place "\t" text
-        }' "$@"
-}
-
-# the first of them in short: its place, and the law or the part of a function that it is about
-first_cause() { # LOG
-    causes "$1" | awk -F '\t' '{ name = match($3, /`[^`]*`/) ? " " substr($3, RSTART, RLENGTH) : ""; print $2 name }'
-}
-
-# CRATE without an edit: says so if it is not proved
-try_unedited() { # CRATE
-    where=target/$runner/$1/unedited
-    rm -rf "$where" "${room:?}/$1"
-    mkdir -p "$where" "$room/$1"
-    lay_out "$1" "$where"
-    seed "$1" "$room/$1"
-    check "$1" "$root/$where" "$room/$1" >"$where/log" 2>&1 && grep -q '^logic=proved' "$where/log" && return
-    echo "$runner $1: NOT PROVED without an edit, first at $(first_cause "$where/log"); see $where/log"
-    return 1
-}
-
-# EDIT: says what became of it
-try_edit() { # CRATE EDIT
-    label=$1/$(basename "$2" .edit)
-    where=target/$runner/$label
-    rm -rf "$where"
-    mkdir -p "$where"
-    cp -R "target/$runner/$1/unedited/crates" "$where/crates"
-    if ! make_edit "$2" "$where"; then
-        echo "$runner $label: BAD EDIT: an old text is not in its file, or stands there twice, or there is none"
-        return
-    fi
-    cp -R "$room/$1" "$room/$1.$$"
-    check "$1" "$root/$where" "$room/$1.$$" >"$where/log" 2>&1
-    ended=$?
-    rm -rf "$room/$1.$$"
-    first=$(first_cause "$where/log")
-    case $ended:$(grep -o '^logic=[a-z-]*' "$where/log"):$first in
-    0:logic=proved:) verdict=proved ;;
-    1:logic=not-proved:?*) verdict=refused ;;
-    *) verdict="BAD EDIT: the prover gave no verdict, or no cause (exit $ended)" ;;
-    esac
-    if grep -q '/specs/[^ ]*: error: ' "$where/log"; then verdict='BAD EDIT: what it makes is no definition'; fi
-    case $verdict:$2 in
-    proved:edits/harmless/*) echo "$runner $label: harmless, and proved as it must be" ;;
-    refused:edits/harmless/*) echo "$runner $label: REFUSED though harmless, first at $first; see $where/log" ;;
-    proved:*) echo "$runner $label: NOT REFUSED; see $where/log" ;;
-    refused:*) echo "$runner $label: refused, first at $first" ;;
-    *) echo "$runner $label: $verdict; see $where/log" ;;
-    esac
-}
-
-# tries CRATE.., two at a time or EDITS_AT_ONCE; the last line counts them, and the exit status is 1 if one is not as it must be
+# tries the edits of CRATE..; the last line counts them, and the exit status is 1 if one is not as it must be
 main() { # CRATE..
-    root=$PWD
-    case ${1:-} in
-    --unedited) try_unedited "$2"; return ;;
-    --edit) try_edit "$2" "$3"; return ;;
-    esac
+    log=$PWD/target/$runner.log
+    mkdir -p target
     for c in "$@"; do [ -n "$(edits_of "$c")" ] || { echo "$runner: there is no edit of $c"; return 2; }; done
     room=$(mktemp -d) || return 2
-    export room
     trap 'rm -rf "$room"' EXIT
     trap 'exit 1' HUP INT TERM
-    self=$root/ci/$runner at_once=${EDITS_AT_ONCE:-2}
-    "$self" --unedited "${harmless% *}" || return 1
-    for c in "$@"; do [ "$c" = "${harmless% *}" ] || echo "$c"; done | xargs -r -n 1 -P "$at_once" "$self" --unedited || return 1
-    {
-        echo "$harmless"
-        for c in "$@"; do edits_of "$c" | sed "s|^|$c |"; done
-    } >"$room/edits"
-    xargs -n 2 -P "$at_once" "$self" --edit <"$room/edits" | tee "$room/said"
-    refused=$(grep -c ': refused, first at ' "$room/said")
-    others=$(($(wc -l <"$room/edits") - refused - $(grep -c ': harmless, and proved as it must be$' "$room/said")))
-    echo "$runner: $refused edits refused, $others not as they must be"
-    [ "$others" -eq 0 ]
+    repo=$room/repo
+    mkdir -p "$repo/crates"
+    # shellcheck disable=SC2086
+    put $harmless
+    # shellcheck disable=SC2046
+    for c in "$@"; do put "$c" $(edits_of "$c"); done
+    # rt proves a crate without an edit by itself where there are two or more
+    : >"$log"
+    for c in "$@"; do
+        set -- "$repo/crates/$(name_of "$c")"
+        [ "$(find "$1/must-fail" -name '*.edit' | wc -l)" -gt 1 ] || (cd "$1" && rt check >"$room/check" 2>&1) || {
+            cat "$room/check"
+            echo "$runner $c: NOT PROVED without an edit"
+            return 1
+        }
+    done
+    (cd "$repo" && RT_JOBS=${EDITS_AT_ONCE:-} rt must-fail) >"$log" 2>&1
+    judge "$log" && return
+    echo "$runner: target/$runner.log has what rt said"
+    return 1
 }

@@ -1,4 +1,4 @@
-/* Wilzhoram, the level-crossing engine: its eight calls for C. Link libwilzhoram.a (rt staticlib wilzhoram), x86-64.
+/* Wilzhoram, the level-crossing engine: its eight calls for C. Link libwilzhoram.a (ci/build wilzhoram), x86-64.
  * docs/INTERFACE.md has the tables of bytes and numbers, docs/notes a page for each request (T-01 and so on).
  *
  * Every call ends on every input and answers with a number: 0 taken, otherwise why it was refused.

@@ -1,4 +1,4 @@
-//! Links the proved engine, which `rt staticlib wilzhoram` writes to target/staticlib.
+//! Links the proved engine, which `ci/build wilzhoram` puts into target/staticlib.
 
 use std::path::Path;
 
@@ -7,7 +7,7 @@ fn main() {
     let archive = folder.join("libwilzhoram.a");
     println!("cargo:rerun-if-changed={}", archive.display());
     if !archive.exists() {
-        eprintln!("no target/staticlib/libwilzhoram.a: run `rt staticlib wilzhoram` first");
+        eprintln!("no target/staticlib/libwilzhoram.a: run `ci/build wilzhoram` first");
         std::process::exit(1);
     }
     println!("cargo:rustc-link-search=native={}", folder.display());
