@@ -37,7 +37,7 @@ awk '/^pub mod / { module = toupper($3) "_" }
 
 # coded GROUP FILE: the constants of the machine as its code has them; defined GROUP FILE: the definitions that are numbers
 coded() { sed -n "s/^pub const \([A-Z_]*\): u8 = \([0-9]*\);\$/$1_\1 \2/p" "crates/machine/src/$2.rt"; }
-defined() { sed -n 's/^\([a-z-]*\) = \([0-9]*\)$/\1 \2/p' "crates/machine/specs/$2.antt" | tr a-z- A-Z_ | sed "s/^/$1_/"; }
+defined() { sed -n 's/^\([a-z_]*\) = \([0-9]*\)$/\1 \2/p' "crates/machine/specs/$2.antt" | tr a-z A-Z | sed "s/^/$1_/"; }
 # one NAME FILE DEFINITION: a definition for a name
 one() { sed -n "s/^$3 = \(.*\)\$/$1 \1/p" "crates/machine/specs/$2.antt"; }
 # the header says operator and centre
@@ -49,9 +49,9 @@ grep -E '^(NUMBER|KIND|BOOM|SENDER)_' "$work/header" | grep -v '^NUMBER_TAKEN ' 
 {
     one TRAIN_SIGNAL_AMBER Panel amber
     one DISTANT_AMBER Panel amber
-    one MOST_EVENTS Sheet sheet-limit
-    one MOST_SHIFT_EVENTS Shift shift-limit
-    one 'BOOK_LENGTH(n)' SiteBook 'book-length n'
+    one MOST_EVENTS Sheet sheet_limit
+    one MOST_SHIFT_EVENTS Shift shift_limit
+    one 'BOOK_LENGTH(n)' SiteBook 'book_length n'
 } >"$work/single"
 grep -E '^([A-Z_]*_AMBER|MOST_[A-Z_]*EVENTS|BOOK_LENGTH\(n\)) ' "$work/header" >"$work/singles"
 
