@@ -2,7 +2,7 @@
 # tests/boundary/constants.sh: the constants of include/wilzhoram.h and of rust/wilzhoram as they are written, run by ci/boundary.
 # What the machine names too (crates/machine, its code and its definitions) must be there, by that name, with that number; all that
 # the header has but its stack figures must be in Rust, boom::UP for WILZHORAM_BOOM_UP, and nothing else; and the version must be
-# the name of the function that gives it, and count the requests of docs/notes. What shows by calls alone is left to shown.c.
+# the name of the function that gives it, and count the requests of docs/notes that are in the library. What shows by calls alone is left to shown.c.
 set -eu
 cd "$(dirname "$0")/../.."
 work=$(mktemp -d)
@@ -37,7 +37,7 @@ awk '/^pub mod / { module = toupper($3) "_" }
 
 # coded GROUP FILE: the constants of the machine as its code has them; defined GROUP FILE: the definitions that are numbers
 coded() { sed -n "s/^pub const \([A-Z_]*\): u8 = \([0-9]*\);\$/$1_\1 \2/p" "crates/machine/src/$2.rt"; }
-defined() { sed -n 's/^\([a-z-]*\) = \([0-9]*\)$/\1 \2/p' "crates/machine/specs/$2.antt" | tr a-z- A-Z_ | sed "s/^/$1_/"; }
+defined() { sed -n 's/^\([a-z_]*\) = \([0-9]*\)$/\1 \2/p' "crates/machine/specs/$2.antt" | tr a-z A-Z | sed "s/^/$1_/"; }
 # one NAME FILE DEFINITION: a definition for a name
 one() { sed -n "s/^$3 = \(.*\)\$/$1 \1/p" "crates/machine/specs/$2.antt"; }
 # the header says operator and centre
@@ -49,9 +49,9 @@ grep -E '^(NUMBER|KIND|BOOM|SENDER)_' "$work/header" | grep -v '^NUMBER_TAKEN ' 
 {
     one TRAIN_SIGNAL_AMBER Panel amber
     one DISTANT_AMBER Panel amber
-    one MOST_EVENTS Sheet sheet-limit
-    one MOST_SHIFT_EVENTS Shift shift-limit
-    one 'BOOK_LENGTH(n)' SiteBook 'book-length n'
+    one MOST_EVENTS Sheet sheet_limit
+    one MOST_SHIFT_EVENTS Shift shift_limit
+    one 'BOOK_LENGTH(n)' SiteBook 'book_length n'
 } >"$work/single"
 grep -E '^([A-Z_]*_AMBER|MOST_[A-Z_]*EVENTS|BOOK_LENGTH\(n\)) ' "$work/header" >"$work/singles"
 
@@ -62,7 +62,7 @@ grep -v '^STACK_' "$work/header" >"$work/callers"
 same 'the header (<) and rust/wilzhoram (>)' callers rust
 
 version=$(sed -n 's/^VERSION //p' "$work/header")
-requests=$(ls docs/notes/T-*.md | wc -l)
+requests=$(($(ls docs/notes/T-*.md | wc -l) - $(grep -l '^\*\*Not in the library yet' docs/notes/T-*.md | wc -l)))
 named() { grep -q "$1" "$2" || { echo "boundary: FAILED: $2 has no $1"; faults=1; }; }
 named "^#define wilzhoram_version wilzhoram_version_$version\$" include/wilzhoram.h
 named "link_name = \"wilzhoram_version_$version\"" rust/wilzhoram/src/lib.rs
