@@ -6,7 +6,7 @@ use native.Mathlib.Omega.{arith}
 use lib.Dec.{eqb, ltb, leb}
 use Rattle.machine.specs.declared.Entry.{Entry}
 use Rattle.machine.specs.Common.{any_below}
-use Rattle.machine.specs.Plant.{lights_only, four_booms, old_sheet, dependent, calling, waiting, route, unsure, occupied, kiosk, operator, reason, boom, booms_up}
+use Rattle.machine.specs.Plant.{lights_only, four_booms, old_sheet, dependent, calling, waiting, route, unsure, occupied, reason, boom, booms_up}
 use Rattle.machine.specs.Events.{blocked}
 use Rattle.machine.specs.Effects.{overlong}
 use Rattle.machine.proofs.Tools.{getD_tab}

@@ -1,6 +1,6 @@
 -- Quiet ticks: what a tick makes of a crossing at which it only counts.
 use mathlib.Core.Path.{◌≡◌, refl, sym, ◌∙◌}
-use mathlib.Core.Bool.{Bool, true, false, not, ◌&&◌, true≢false}
+use mathlib.Core.Bool.{Bool, true, false, ◌&&◌, true≢false}
 use Prim.Native.Nat.{ℕ, zero, suc, pred, ◌+◌, ◌-◌, ◌≤◌, ◌<◌}
 use native.Mathlib.Omega.{arith}
 use lib.Dec.{eqb, ltb, leb}
@@ -8,11 +8,8 @@ use lib.ListN.{length}
 use borrow.Author.Tests.{eqb-true, eqb-false, eq-eqb, ne_eqb, lt-leb, ltb-true, ltb-false, lt-ltb, le-ltb}
 use Rattle.machine.specs.declared.Entry.{Entry}
 use Rattle.machine.specs.declared.Crossing.{Crossing}
-use Rattle.machine.specs.declared.Event.{Event}
-use Rattle.machine.specs.Common.{bit}
-use Rattle.machine.specs.Plant.{overlong_ticks, most_ticks, lights_only, old_sheet, kiosk, operator, occupied, boom, reason, booms_up, normal, total}
-use Rattle.machine.specs.Events.{refusal}
-use Rattle.machine.specs.Effects.{act, tick, overlong, releases, phase_ticked, timer_ticked}
+use Rattle.machine.specs.Plant.{overlong_ticks, most_ticks, lights_only, old_sheet, boom, reason, booms_up, normal}
+use Rattle.machine.specs.Effects.{tick, overlong, releases, phase_ticked, timer_ticked}
 use Rattle.machine.specs.Settling.{phase_settled, timer_settled, left_settled, out_settled, settle}
 use Rattle.machine.proofs.Tools.{by_test, by_cond, tab_getD}
 use Rattle.quiet.specs.Passing.{out_after, passed, ticks_left, sheet_left, smaller, opens, span}
