@@ -2,7 +2,7 @@
 # tests/boundary/constants.sh: the constants of include/wilzhoram.h and of rust/wilzhoram as they are written, run by ci/boundary.
 # What the machine names too (crates/machine, its code and its definitions) must be there, by that name, with that number; all that
 # the header has but its stack figures must be in Rust, boom::UP for WILZHORAM_BOOM_UP, and nothing else; and the version must be
-# the name of the function that gives it, and count the requests of docs/notes that are in the library. What shows by calls alone is left to shown.c.
+# the name of the function that gives it, and count the requests of docs/notes. What shows by calls alone is left to shown.c.
 set -eu
 cd "$(dirname "$0")/../.."
 work=$(mktemp -d)
@@ -62,7 +62,7 @@ grep -v '^STACK_' "$work/header" >"$work/callers"
 same 'the header (<) and rust/wilzhoram (>)' callers rust
 
 version=$(sed -n 's/^VERSION //p' "$work/header")
-requests=$(($(ls docs/notes/T-*.md | wc -l) - $(grep -l '^\*\*Not in the library yet' docs/notes/T-*.md | wc -l)))
+requests=$(ls docs/notes/T-*.md | wc -l)
 named() { grep -q "$1" "$2" || { echo "boundary: FAILED: $2 has no $1"; faults=1; }; }
 named "^#define wilzhoram_version wilzhoram_version_$version\$" include/wilzhoram.h
 named "link_name = \"wilzhoram_version_$version\"" rust/wilzhoram/src/lib.rs
