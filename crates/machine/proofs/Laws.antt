@@ -9,7 +9,7 @@ use lib.ListN.{get_or, length, length-append}
 use borrow.Author.Tests.{eqb-true, eqb-false, eq-eqb, leb-true, le-leb, lt-ltb, le-ltb, not-false}
 use Rattle.machine.specs.Common.{tab, all_below, bit}
 use Rattle.machine.specs.Plant.{Entry, Site, Crossing, Plant, entry, crossing, no_entry, no_crossing, fresh_crossing, fresh_plant, boom_count, lamp_count, lamps_at}
-use Rattle.machine.specs.Range.{entry_in, entry_zero, report_limit, boom_in, lamp_in, crossing_zero, count_in, in_range}
+use Rattle.machine.specs.Range.{entry_in, entry_zero, report_limit, boom_in, crossing_zero, count_in, in_range}
 use Rattle.machine.specs.Events.{Command, is, number}
 use Rattle.machine.specs.Step.{touch, apply, step}
 use Rattle.machine.specs.Panel.{row, panel}

@@ -14,7 +14,7 @@ use Rattle.machine.specs.Events.{Event, Command, is, is_at, on_track, place_limi
 use Rattle.machine.specs.Effects.{sweeps, calling_after, waiting_after, unsure_after, cancels, act, overlong, releases, phase_ticked, timer_ticked, tick}
 use Rattle.machine.specs.Settling.{phase_settled, timer_settled, left_settled, out_settled, with_phase, settle}
 use Rattle.machine.specs.Step.{touch, apply, step}
-use Rattle.machine.proofs.Tools.{by_test, by_cond, and_both, getD_tab, each_tab}
+use Rattle.machine.proofs.Tools.{by_test, by_cond, and_both, getD_tab}
 use Rattle.machine.proofs.Trains.{at_place, trains_after}
 use Rattle.machine.proofs.Taken.{Accepted, taken_accepted, taken_crossing, taken_answer, refused_answer}
 use Rattle.machine.proofs.Entries.{EntryIn, zero_kind}

@@ -1,6 +1,6 @@
 -- The printed table of source document 000, section 3.4.3 (document 02, T-08), for 870 mm/s2: five speeds by seven gradients. The formula
 -- decides (Board); the table is carried beside it.
-use Rattle.std.specs.Prelude.{Bool, cond, ◌&&◌, List, [], ◌∷◌, ℕ, eqb, ltb, get_or, ℤ, pos, negsuc}
+use Rattle.std.specs.Prelude.{cond, ◌&&◌, List, [], ◌∷◌, ℕ, ltb, get_or, ℤ, pos, negsuc}
 pub use Rattle.machine.specs.declared.BoardCell.{BoardCell}
 
 -- its heads: speeds down, km/h

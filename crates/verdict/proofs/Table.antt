@@ -12,7 +12,6 @@ use Rattle.machine.specs.declared.Event.{Event}
 use Rattle.machine.specs.Numbers.{unknown_code, unknown_crossing, unknown_place, unknown_value, train_calling}
 use Rattle.machine.specs.Events.{crossing_limit, place_limit, value_limit, any_calling, refusal}
 use Rattle.machine.proofs.Tools.{by_test}
-use Rattle.verdict.specs.declared.Row.{Row}
 use Rattle.verdict.specs.declared.Row.TheVariants.{Limits, Unknown}
 use Rattle.verdict.specs.declared.Verdict.{Verdict}
 use Rattle.verdict.specs.Cases.{number_of, verdict, row_of, state_refusal}

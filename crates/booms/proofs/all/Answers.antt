@@ -2,7 +2,6 @@ use mathlib.Core.Path.{◌∙◌}
 use lib.Dec.{eqb}
 use lib.ListN.{get_or}
 use Rattle.booms.proofs.Laws.{sides}
-use borrow.Author.Rules.{rules}
 use Rattle.booms.proofs.all.Goals as goal
 
 pub returns : goal.returns

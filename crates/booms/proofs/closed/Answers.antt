@@ -2,7 +2,6 @@ use mathlib.Core.Path.{sym, ◌∙◌}
 use mathlib.Core.Bool.{and-true}
 use Rattle.machine.specs.Plant.{booms_closed, booms_down}
 use Rattle.booms.proofs.Laws.{two_half}
-use borrow.Author.Rules.{rules}
 use Rattle.booms.proofs.closed.Goals as goal
 
 pub returns-then-half_booms : goal.returns-then-half_booms

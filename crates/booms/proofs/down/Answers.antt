@@ -1,5 +1,4 @@
 use Rattle.machine.specs.Plant.{booms_down}
-use borrow.Author.Rules.{rules}
 use Rattle.booms.proofs.down.Goals as goal
 
 pub returns : goal.returns

@@ -1,5 +1,4 @@
 use Rattle.booms.specs.Sides.{on_sides}
-use borrow.Author.Rules.{rules}
 use Rattle.booms.proofs.each.Goals as goal
 
 pub returns-then-lights_only : goal.returns-then-lights_only

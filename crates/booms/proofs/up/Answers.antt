@@ -1,5 +1,4 @@
 use Rattle.machine.specs.Plant.{booms_up}
-use borrow.Author.Rules.{rules}
 use Rattle.booms.proofs.up.Goals as goal
 
 pub returns : goal.returns

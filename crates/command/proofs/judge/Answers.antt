@@ -1,6 +1,6 @@
 -- without the right, by the verdict with it: 5 to 8 stand, and all else is 17
 use mathlib.Core.Path.{◌≡◌, sym, ◌∙◌}
-use mathlib.Core.Bool.{true, false}
+use mathlib.Core.Bool.{false}
 use native.Mathlib.Omega.{arith}
 use Rattle.machine.specs.Rights.{may_send}
 use Rattle.verdict.proofs.Cases.{says}

@@ -1,7 +1,6 @@
 use Rattle.train.proofs.Stores.{act_stores}
 use Rattle.machine.specs.Effects.{cancels}
 use borrow.Author.Tests.{ne_eqb}
-use borrow.Author.Rules.{rules}
 use Rattle.effect.proofs.act.Goals as goal
 
 pub returns-in_default : goal.returns-in_default

@@ -1,5 +1,4 @@
 use Rattle.settle.proofs.Parts.{all_parts}
-use borrow.Author.Rules.{rules}
 use Rattle.effect.proofs.apply.Goals as goal
 
 pub returns : goal.returns

@@ -1,9 +1,6 @@
-use mathlib.Core.Path.{refl}
-use Rattle.train.proofs.Taken.{on_four}
 use Rattle.train.proofs.Stores.{act_stores}
 use Rattle.machine.specs.Effects.{cancels}
 use borrow.Author.Tests.{ne_eqb}
-use borrow.Author.Rules.{rules}
 use Rattle.effect.proofs.approach.Goals as goal
 
 pub returns-then-occupied-eq1 : goal.returns-then-occupied-eq1

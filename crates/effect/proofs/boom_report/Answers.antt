@@ -1,8 +1,5 @@
-use mathlib.Core.Path.{refl}
-use Rattle.train.proofs.Taken.{on_four}
 use Rattle.train.proofs.Stores.{act_stores}
 use Rattle.machine.specs.Effects.{cancels}
-use borrow.Author.Rules.{rules}
 use Rattle.effect.proofs.boom_report.Goals as goal
 
 pub returns : goal.returns

@@ -1,6 +1,5 @@
 use Rattle.train.proofs.Stores.{act_stores}
 use Rattle.machine.specs.Effects.{cancels}
-use borrow.Author.Rules.{rules}
 use Rattle.effect.proofs.lamp_report.Goals as goal
 
 pub returns : goal.returns

@@ -6,7 +6,6 @@ use Rattle.machine.proofs.Taken.{refused_answer, as_listed}
 use Rattle.machine.specs.Events.{listed, sent, is_known, entitled, number}
 use mathlib.Core.Path.{◌≡◌, refl, sym, ◌∙◌, ap, subst}
 use Rattle.machine.specs.Step.{step}
-use borrow.Author.Rules.{rules}
 use Rattle.event.proofs.answer.Goals as goal
 
 pub take-requires : goal.take-requires

@@ -6,7 +6,6 @@ use Rattle.machine.specs.Rights.{known_sender}
 use Rattle.machine.specs.Events.{sent, is_known, number}
 use Rattle.machine.proofs.Taken.{refused_answer}
 use Rattle.event.proofs.Steps.{number_spoilt, number_unknown}
-use borrow.Author.Rules.{rules}
 use Rattle.event.proofs.handle.Goals as goal
 
 pub returns-then-in_range : goal.returns-then-in_range

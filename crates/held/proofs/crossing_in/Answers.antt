@@ -1,5 +1,4 @@
 use Rattle.machine.specs.Range.{crossing_in}
-use borrow.Author.Rules.{rules}
 use Rattle.held.proofs.crossing_in.Goals as goal
 
 pub returns : goal.returns

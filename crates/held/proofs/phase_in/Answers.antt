@@ -1,6 +1,5 @@
 use borrow.Author.Tests.{ne_eqb}
 use Rattle.machine.specs.Range.{phase_in}
-use borrow.Author.Rules.{rules}
 use Rattle.held.proofs.phase_in.Goals as goal
 
 pub returns-in-1 : goal.returns-in-1

@@ -2,7 +2,6 @@ use mathlib.Core.Path.{refl}
 use native.Mathlib.Omega.{arith}
 use Rattle.kind.proofs.Laws.{no_bit}
 use Rattle.machine.specs.Plant.{dependent}
-use borrow.Author.Rules.{rules}
 use Rattle.kind.proofs.dependent.Goals as goal
 
 pub returns-then-t-lt8 : goal.returns-then-t-lt8

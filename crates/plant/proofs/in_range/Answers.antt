@@ -1,13 +1,6 @@
-use native.Mathlib.Numerals.{add-one}
 use native.Mathlib.Omega.{arith}
-use Prim.Native.Nat.{◌≤◌, ◌<◌, ◌-◌}
-use lib.ListN.{length}
-use Rattle.plant.proofs.Laws.{eight_crossings, crossing_read}
 use mathlib.Core.Path.{◌≡◌}
-use Rattle.machine.specs.Common.{all_below}
-use Rattle.machine.specs.Plant.{entry, crossing}
-use Rattle.machine.specs.Range.{in_range, place_in}
-use borrow.Author.Rules.{rules}
+use Rattle.machine.specs.Range.{in_range}
 use Rattle.plant.proofs.in_range.Goals as goal
 
 pub returns : goal.returns

@@ -1,13 +1,8 @@
-use native.Mathlib.Numerals.{add-one}
-use native.Mathlib.Omega.{arith}
-use Prim.Native.Nat.{◌≤◌, ◌<◌, ◌-◌}
-use lib.ListN.{length}
-use Rattle.plant.proofs.Laws.{eight_crossings, crossing_read}
+use Prim.Native.Nat.{◌≤◌, ◌-◌}
 use mathlib.Core.Path.{◌≡◌}
 use Rattle.machine.specs.Common.{all_below}
 use Rattle.machine.specs.Plant.{entry, crossing}
-use Rattle.machine.specs.Range.{in_range, place_in}
-use borrow.Author.Rules.{rules}
+use Rattle.machine.specs.Range.{place_in}
 use Rattle.plant.proofs.in_range.Given as goal
 
 abbrev pub invariant-loop-i : goal.invariant-loop-i

@@ -1,6 +1,5 @@
 use borrow.Author.Tests.{le-ltb, lt-ltb}
 use Rattle.machine.specs.Range.{place_in}
-use borrow.Author.Rules.{rules}
 use Rattle.plant.proofs.place_in.Goals as goal
 
 pub returns-then-i-count : goal.returns-then-i-count

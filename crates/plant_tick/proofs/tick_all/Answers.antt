@@ -1,11 +1,10 @@
 use mathlib.Core.Path.{◌≡◌, ◌∙◌}
-use Prim.Native.Nat.{ℕ, ◌*◌, ◌-◌, ◌≤◌, ◌<◌}
+use Prim.Native.Nat.{ℕ, ◌≤◌, ◌<◌}
 use native.Mathlib.Numerals.{add-one}
 use native.Mathlib.Omega.{arith}
 use lib.ListN.{length, get_or}
 use native.Mathlib.Nat.{le_refl}
 use borrow.Author.Rules.{rules}
-use Rattle.machine.specs.Common.{sum_below}
 use Rattle.machine.specs.Plant.{no_entry, no_crossing}
 use Rattle.machine.proofs.Tools.{sum_past}
 use Rattle.machine.proofs.First.{put_first, past_first, first_tab}

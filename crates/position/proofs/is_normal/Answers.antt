@@ -1,5 +1,4 @@
 use Rattle.machine.specs.Plant.{normal}
-use borrow.Author.Rules.{rules}
 use Rattle.position.proofs.is_normal.Goals as goal
 
 pub returns : goal.returns

@@ -1,5 +1,4 @@
 use Rattle.machine.specs.Plant.{secured}
-use borrow.Author.Rules.{rules}
 use Rattle.position.proofs.is_secured.Goals as goal
 
 pub returns : goal.returns

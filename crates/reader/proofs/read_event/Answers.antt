@@ -1,5 +1,4 @@
 use Rattle.machine.specs.Sheet.{sheet_event}
-use borrow.Author.Rules.{rules}
 use Rattle.reader.proofs.read_event.Goals as goal
 
 pub returns : goal.returns

@@ -1,5 +1,4 @@
 use Rattle.machine.specs.Plant.{reason}
-use borrow.Author.Rules.{rules}
 use Rattle.reason.proofs.stands.Goals as goal
 
 pub returns : goal.returns

@@ -1,5 +1,4 @@
 use Rattle.machine.specs.Effects.{overlong}
-use borrow.Author.Rules.{rules}
 use Rattle.release.proofs.overlong.Goals as goal
 
 pub returns : goal.returns

@@ -1,8 +1,6 @@
 use mathlib.Core.Path.{refl}
-use native.Mathlib.Omega.{arith}
-use borrow.Author.Rules.{rules}
 use Rattle.machine.specs.Panel.{lit_at}
-use Rattle.rhythm.proofs.Rows.{by_rhythm, by_beat, as_asked, within_12}
+use Rattle.rhythm.proofs.Rows.{by_rhythm, by_beat, as_asked}
 use Rattle.rhythm.proofs.row_of.Goals as goal
 
 -- the table theorem: each row of the code's table equals document 01's rule at its rhythm and beat, computed: a line for a rhythm, a `refl` for

@@ -1,6 +1,5 @@
 use Rattle.machine.specs.Range.{entry_in}
 use mathlib.Core.Bool.{and_assoc}
-use borrow.Author.Rules.{rules}
 use Rattle.settings.proofs.entry_in.Goals as goal
 
 pub returns : goal.returns

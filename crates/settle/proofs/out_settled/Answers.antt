@@ -1,7 +1,6 @@
 use native.Mathlib.Omega.{arith}
 use borrow.Author.Tests.{le-ltb, lt-ltb}
 use Rattle.machine.specs.Settling.{out_settled}
-use borrow.Author.Rules.{rules}
 use Rattle.settle.proofs.out_settled.Goals as goal
 
 pub returns-then-normal : goal.returns-then-normal

@@ -1,6 +1,5 @@
 use borrow.Author.Tests.{ne_eqb}
 use Rattle.machine.specs.Settling.{phase_settled}
-use borrow.Author.Rules.{rules}
 use Rattle.settle.proofs.phase_settled.Goals as goal
 
 pub returns-then-stands-2 : goal.returns-then-stands-2

@@ -1,6 +1,5 @@
 use borrow.Author.Tests.{eq-eqb, ne_eqb}
 use Rattle.machine.specs.Effects.{phase_ticked}
-use borrow.Author.Rules.{rules}
 use Rattle.tick.proofs.phase_ticked.Goals as goal
 
 pub returns-then-phase-four_booms : goal.returns-then-phase-four_booms

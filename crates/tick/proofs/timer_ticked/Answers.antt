@@ -1,6 +1,5 @@
 use borrow.Author.Tests.{eq-eqb, ne_eqb}
 use Rattle.machine.specs.Effects.{timer_ticked}
-use borrow.Author.Rules.{rules}
 use Rattle.tick.proofs.timer_ticked.Goals as goal
 
 pub returns-then-phase-four_booms : goal.returns-then-phase-four_booms

@@ -1,5 +1,4 @@
 use Rattle.machine.specs.Range.{track_in}
-use borrow.Author.Rules.{rules}
 use Rattle.track.proofs.track_in.Goals as goal
 
 pub returns : goal.returns

@@ -1,13 +1,10 @@
-use mathlib.Core.Path.{sym, refl}
+use mathlib.Core.Path.{sym}
 use Rattle.train.proofs.Stores.{passage_waited, act_stores}
 use lib.Seq.{set-get_or}
 use native.Mathlib.Nat.{sub-zero}
 use native.Mathlib.Numerals.{sub-one}
-use native.Mathlib.Omega.{arith}
-use Rattle.train.proofs.Taken.{on_four}
 use Rattle.machine.specs.Effects.{cancels}
 use borrow.Author.Tests.{ne_eqb}
-use borrow.Author.Rules.{rules}
 use Rattle.train.proofs.passage.Goals as goal
 
 pub returns-then-calling-eq0 : goal.returns-then-calling-eq0

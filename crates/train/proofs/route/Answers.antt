@@ -1,10 +1,7 @@
 use Rattle.train.proofs.Stores.{route_set, act_stores}
-use mathlib.Core.Path.{refl, sym}
-use native.Mathlib.Omega.{arith}
-use Rattle.train.proofs.Taken.{on_four}
+use mathlib.Core.Path.{sym}
 use Rattle.machine.specs.Effects.{cancels}
 use borrow.Author.Tests.{eq-eqb, ne_eqb}
-use borrow.Author.Rules.{rules}
 use Rattle.train.proofs.route.Goals as goal
 
 pub returns-then-set-eq1 : goal.returns-then-set-eq1

@@ -1,15 +1,10 @@
-use Rattle.machine.specs.Plant.{full, trains, is_full}
+use Rattle.machine.specs.Plant.{is_full}
 use Rattle.machine.specs.Effects.{calls, cancels}
 use lib.Seq.{set-get_or}
-use native.Mathlib.Omega.{arith}
 use native.Mathlib.Nat.{add-zero}
-use Prim.Native.Nat.{◌<◌}
 use mathlib.Core.Bool.{true, false}
-use mathlib.Core.Path.{◌≡◌, refl, sym, ◌∙◌}
-use Rattle.train.proofs.Taken.{on_four}
+use mathlib.Core.Path.{◌≡◌, sym, ◌∙◌}
 use Rattle.train.proofs.Stores.{act_stores}
-use borrow.Author.Tests.{leb-false}
-use borrow.Author.Rules.{rules}
 use Rattle.train.proofs.strike_in.Goals as goal
 
 pub returns-then-full : goal.returns-then-full

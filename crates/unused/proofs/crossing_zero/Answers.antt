@@ -1,5 +1,4 @@
 use Rattle.machine.specs.Range.{crossing_zero}
-use borrow.Author.Rules.{rules}
 use Rattle.unused.proofs.crossing_zero.Goals as goal
 
 pub returns : goal.returns

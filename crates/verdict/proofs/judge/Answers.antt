@@ -1,5 +1,5 @@
 -- each return is the row's number: judged by the row of the code, limit by limit
-use mathlib.Core.Path.{refl, sym, ◌∙◌}
+use mathlib.Core.Path.{refl, sym}
 use Rattle.verdict.proofs.Table.{row_refusal, by_no_row, by_row, told}
 use borrow.Author.Tests.{le-leb, lt-leb}
 use Rattle.verdict.proofs.judge.Goals as goal

@@ -1,7 +1,6 @@
 use Rattle.verdict.specs.Cases.{state_refusal}
 use Rattle.verdict.proofs.Table.{operator_hold}
 use borrow.Author.Tests.{ne_eqb}
-use borrow.Author.Rules.{rules}
 use Rattle.verdict.proofs.judge_state.Goals as goal
 
 pub returns-then-e-eq5 : goal.returns-then-e-eq5
