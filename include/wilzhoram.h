@@ -289,11 +289,11 @@ wilzhoram_distance wilzhoram_board_distance(uint16_t speed, uint16_t retardation
  * Measured by ci/boundary on a thread with a painted stack, over every number and event code, and rounded up. The C
  * library's memory functions, all that a call calls, are bound when the program starts (-z now, or linked statically). */
 #define WILZHORAM_STACK_VERSION        64
-#define WILZHORAM_STACK_READ           960
+#define WILZHORAM_STACK_READ           1408
 #define WILZHORAM_STACK_WRITE          320
-#define WILZHORAM_STACK_EVENT          4480
+#define WILZHORAM_STACK_EVENT          5248
 #define WILZHORAM_STACK_DRAW           1280
-#define WILZHORAM_STACK_PREVIEW        4032
+#define WILZHORAM_STACK_PREVIEW        4352
 #define WILZHORAM_STACK_RUN            3392
 #define WILZHORAM_STACK_AGREE          3264
 #define WILZHORAM_STACK_BOARD_DISTANCE 64
