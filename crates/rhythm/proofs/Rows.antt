@@ -1,5 +1,5 @@
 -- Reading the table of rhythms (T-05): its places one by one, and the beats above 3. The table theorem, `each_row`, is about the code's own
--- table: row_of/Proof.antt.
+-- table: row_of/Answers.antt.
 use mathlib.Core.Path.{◌≡◌, refl}
 use mathlib.Core.Bool.{false}
 use Prim.Native.Nat.{ℕ, ◌≤◌, ◌<◌}
