@@ -88,7 +88,8 @@ main() { # CRATE..
     log=$PWD/target/$runner.log
     mkdir -p target
     for c in "$@"; do [ -n "$(edits_of "$c")" ] || { echo "$runner: there is no edit of $c"; return 2; }; done
-    room=$(mktemp -d) || return 2
+    # a path without links, as rt names it
+    room=$(mktemp -d) && room=$(cd "$room" && pwd -P) || return 2
     trap 'rm -rf "$room"' EXIT
     trap 'exit 1' HUP INT TERM
     repo=$room/repo
@@ -107,7 +108,7 @@ main() { # CRATE..
             return 1
         }
     done
-    (cd "$repo" && RT_JOBS=${EDITS_AT_ONCE:-} rt must-fail) >"$log" 2>&1
+    (cd "$repo" && TMPDIR=$room RT_JOBS=${EDITS_AT_ONCE:-} rt must-fail) >"$log" 2>&1
     judge "$log" && return
     echo "$runner: target/$runner.log has what rt said"
     return 1

@@ -1,11 +1,12 @@
 -- The record of a crossing agrees with the ledger, over a tick and over an event of its own.
-use mathlib.Core.Path.{◌≡◌, refl, sym, ◌∙◌, ap}
+use mathlib.Core.Path.{◌≡◌, refl, ◌∙◌, ap}
 use mathlib.Core.Bool.{Bool, true, false, cond, not, ◌&&◌, ◌||◌}
-use Prim.Native.Nat.{ℕ, zero, suc, ◌+◌, ◌-◌, pred, ◌≤◌, ◌<◌}
+use Prim.Native.Nat.{ℕ, zero, suc, ◌+◌, ◌-◌, pred, ◌<◌}
 use native.Mathlib.Nat.{add-zero, sub-zero}
 use native.Mathlib.Omega.{arith}
 use lib.Dec.{eqb, ltb, leb, lit<, eqb-suc-zero}
-use Rattle.machine.specs.Common.{bit}
+use lib.ListN.{get_or}
+use Rattle.machine.specs.Common.{bit, tab}
 use Rattle.machine.specs.declared.Entry.{Entry}
 use Rattle.machine.specs.declared.Crossing.{Crossing}
 use Rattle.machine.specs.declared.Event.{Event}
@@ -22,6 +23,11 @@ use Rattle.demand.proofs.Stages.{clock_of, numbers, clock_ticked, tick_clock, cl
 
 abbrev pub queue_of : Crossing → ℕ → Queue
 queue_of c t = record { calling = calling c t; waiting = waiting c t }
+
+-- queues whose two numbers stand in tables
+read_queue : {f g : ℕ → ℕ} {q : ℕ → Queue} → ((t : ℕ) → t < 4 → record { calling = f t; waiting = g t } ≡ q t)
+    → (t : ℕ) → t < 4 → ◌≡◌ {A = Queue} (record { calling = get_or (tab 4 f) t 0; waiting = get_or (tab 4 g) t 0 }) (q t)
+read_queue {f} {g} p t b = rw (getD_tab 4 f 0 t b, getD_tab 4 g 0 t b) (p t b)
 
 -- lamps that the kind lacks are not looked at; ticks out of normal are held up to 1,080
 pub record Agree (s : Entry) (c : Crossing) (k : State) : Type 0 where
@@ -95,13 +101,17 @@ module _ (s : Entry) {c : Crossing} {k : State} (a : Agree s c k) (e : Event) wh
       busy t b = ap (λ x. eqb x 1) (a.occupied t b)
 
   module _ (z : e.code ≡ 0) where
-    tick_queue : (t : ℕ) → t < 4 → queue_of (tick s c) t ≡ queue_next s e k t
-    unfolding tick queue_next
-    tick_queue t b = rw (getD_tab 4 (λ t. cond (releases s c) 0 (calling c t)) 0 t b, getD_tab 4 (λ t. cond (releases s c) 0 (waiting c t)) 0 t b, z, ← a.queue t b, ← same_release) (both (releases s c))
+    released : (t : ℕ) → t < 4 → ◌≡◌ {A = Queue} (record { calling = cond (releases s c) 0 (calling c t); waiting = cond (releases s c) 0 (waiting c t) }) (queue_next s e k t)
+    unfolding queue_next
+    released t b = rw (z, ← a.queue t b, ← same_release) (both (releases s c))
       where
         both : (r : Bool) → ◌≡◌ {A = Queue} (record { calling = cond r 0 (calling c t); waiting = cond r 0 (waiting c t) }) (cond r empty (queue_of c t))
         both true = refl
         both false = refl
+
+    tick_queue : (t : ℕ) → t < 4 → queue_of (tick s c) t ≡ queue_next s e k t
+    unfolding tick
+    tick_queue = read_queue released
 
     tick_unsure : (t : ℕ) → t < 4 → cond (releases s c) 0 (unsure_flag c t) ≡ unsure_next s e k t
     unfolding unsure_next

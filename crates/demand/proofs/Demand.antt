@@ -1,11 +1,11 @@
 -- Demand 3, proved: the parts at one crossing, then the claim for every book and every list of commands.
 use mathlib.Core.Path.{◌≡◌, refl, sym, ◌∙◌, ap}
 use mathlib.Core.Logic.{◌⊎◌}
-use mathlib.Core.Bool.{true, false, ◌&&◌, ◌||◌, true≢false, false≢true, or-true}
+use mathlib.Core.Bool.{true, false, ◌||◌, true≢false, false≢true, or-true}
 use mathlib.Core.List.{List, [], ◌∷◌, map}
 use Prim.Native.Nat.{ℕ, ◌%◌, ◌≤◌, ◌<◌}
 use native.Mathlib.Omega.{arith}
-use lib.Dec.{eqb, ltb, lit<}
+use lib.Dec.{eqb, lit<}
 use lib.ListN.{get_or}
 use borrow.Author.Tests.{eqb-true, eqb-false, lt-ltb}
 use Rattle.machine.specs.declared.Entry.{Entry}

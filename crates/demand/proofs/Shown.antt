@@ -13,7 +13,7 @@ use Rattle.machine.specs.Plant.{is_on, overdue_ticks, lights_only, old_sheet, ca
 use Rattle.machine.specs.Effects.{releases, phase_ticked, tick}
 use Rattle.machine.specs.Settling.{phase_settled, settle}
 use Rattle.machine.specs.Panel.{has_booms, amber, road, shows_white, signal, right_down, left_down, released, releases_shown, status}
-use Rattle.machine.proofs.Tools.{by_test, by_cond, and_both, neither}
+use Rattle.machine.proofs.Tools.{by_test, and_both, neither}
 
 -- 2 is shown where the white is, and in no other way
 only_2 : (old white secured amber_lit lamp_3 lamp_2 : Bool) → cond old (cond white 2 (bit amber_lit amber)) (cond secured (bit lamp_3 2) (bit lamp_2 1)) ≡ 2 → cond old white secured ≡ true
