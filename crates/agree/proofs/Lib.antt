@@ -1,3 +1,4 @@
 pub mod Same
+pub mod Parts
 pub mod Turns
 pub mod Calls

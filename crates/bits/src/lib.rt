@@ -1,7 +1,7 @@
-// Tests as numbers and bits of a byte.
+// Bits of a byte, by tests.
 #![tactic(auto)]
 
-ghost use Rattle.std.specs.Prelude.{cond, ◌≡◌, ◌+◌, ◌≤◌};
+ghost use Rattle.std.specs.Prelude.{◌≡◌, ◌+◌, ◌≤◌};
 ghost use Rattle.machine.specs.Common.{bit};
 
 // A value where the test holds, otherwise 0.
@@ -10,20 +10,6 @@ pub fn value(on: bool, v: u8) -> u8
     ensures upper_bound { result ≤ v }
 {
     if on { v } else { 0 }
-}
-
-// One of two tests, by a third.
-pub fn either(test: bool, a: bool, b: bool) -> bool
-    ensures { result ≡ cond test a b }
-{
-    if test { a } else { b }
-}
-
-// 1 where the test holds.
-pub fn bit(on: bool) -> u8
-    ensures { result ≡ bit on 1 }
-{
-    value(on, 1)
 }
 
 // Four tests as bits 1, 2, 4 and 8.

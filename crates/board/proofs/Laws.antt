@@ -1,10 +1,13 @@
 -- The gradient above -30, and how large the numbers become.
 use mathlib.Core.Path.{◌≡◌, refl, ap}
-use Prim.Native.Nat.{ℕ, suc, ◌+◌, ◌-◌, ◌*◌, ◌/◌, ◌^◌, ◌≤◌, ◌<◌}
-use native.Mathlib.Nat.{mul-le-mul, div-lt_iff_lt-mul}
+use Prim.Native.Nat.{ℕ, suc, min, ◌+◌, ◌-◌, ◌*◌, ◌/◌, ◌%◌, ◌^◌, ◌≤◌, ◌<◌}
+use native.Mathlib.Nat.{add-mul-div_left, div-eq_of_lt, div-lt_iff_lt-mul, mod-add-div, mod-lt, mul-le-mul, mul-suc}
+use native.Mathlib.Numerals.{add-one}
 use native.Mathlib.Omega.{arith}
-use borrow.Author.Tests.{le-ltb}
+use lib.Dec.{eqb}
+use borrow.Author.Tests.{le-ltb, eqb-true, eqb-false}
 use lib.IntN.{ℤ, pos, negsuc, nat_abs, ◌+ℤ◌}
+use Rattle.machine.proofs.Tools.{by_test}
 use Rattle.setting_out.specs.SettingOut.{Retardation, Gradient, slowing}
 
 -- raised by 30 it is not below zero, and 60 at most
@@ -27,6 +30,26 @@ slowing_is d (negsuc n) r g = rw (fall_raised n g) (omega arith)
 -- the products of two numbers
 pub sizes : (v q : ℕ) → v ≤ 120 → q ≤ 179430 → (v * v ≤ 14400) × (v * q ≤ 21531600)
 sizes v q s l = (mul-le-mul s s, mul-le-mul s l)
+
+-- a quotient rounded up, as std and as the machine say it
+pub ceiling : (x y : ℕ) → 0 < y → x / y + min 1 (x % y) ≡ (x + (y - 1)) / y
+ceiling x y p =
+    let h = mod-add-div x y in
+    let r : x % y < y = mod-lt x p in
+    let m : y * (x / y + 1) ≡ y * (x / y) + y = rw (add-one (x / y)) (mul-suc y (x / y)) in
+    by_test (eqb (x % y) 0)
+    (λ q.
+    let z = eqb-true (x % y) 0 q in
+    let e : x + (y - 1) ≡ (y - 1) + y * (x / y) = omega arith in
+    let d : (y - 1) / y ≡ 0 = div-eq_of_lt (omega arith) in
+    let s = add-mul-div_left (y - 1) (x / y) {y = y} p in
+    rw e (omega arith))
+    (λ q.
+    let z = eqb-false (x % y) 0 q in
+    let e : x + (y - 1) ≡ (x % y - 1) + y * (x / y + 1) = omega arith in
+    let d : (x % y - 1) / y ≡ 0 = div-eq_of_lt (omega arith) in
+    let s = add-mul-div_left (x % y - 1) (x / y + 1) {y = y} p in
+    rw e (omega arith))
 
 -- tens of metres: few enough, and the same of the same numbers
 pub tens_fit : {x y : ℕ} → 0 < y → x < 6553 * y → 10 * (x / y) < 65536

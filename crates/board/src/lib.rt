@@ -3,24 +3,26 @@
 
 ghost use Rattle.std.specs.Prelude.{◌≡◌, ◌≤◌, pos, nat_abs, ◌+ℤ◌};
 ghost use Rattle.machine.specs.Board.{ratio, full_tens, board_number, board_distance};
+ghost use Rattle.refusal.specs.Numbers.{number_of};
+ghost use Rattle.board.specs.Distances.{distance_of};
 ghost use Rattle.setting_out.specs.SettingOut.{Retardation, Gradient, slowing, top, bottom};
 
-use machine::{BoardDistance, numbers};
+use refusal::Refusal;
 
 // 19, speed not 1 to 120 km/h; 20, retardation not 500 to 1,500 mm/s2; 21, gradient not -30 to 30 per mille; in that order.
-fn number(speed: u16, retardation: u16, gradient: i16) -> u8
-    ensures { result ≡ board_number speed retardation gradient }
+fn checked(speed: u16, retardation: u16, gradient: i16) -> Result<(), Refusal>
+    ensures { number_of result ≡ board_number speed retardation gradient }
 {
-    if (1 <= speed) & (speed <= 120) {
-        if (500 <= retardation) & (retardation <= 1500) {
-            if (-30 <= gradient) & (gradient <= 30) {
-                return 0;
-            }
-            return numbers::BAD_GRADIENT;
-        }
-        return numbers::BAD_RETARDATION;
+    if !((1 <= speed) & (speed <= 120)) {
+        return Err(Refusal::BadSpeed);
     }
-    numbers::BAD_SPEED
+    if !((500 <= retardation) & (retardation <= 1500)) {
+        return Err(Refusal::BadRetardation);
+    }
+    if !((-30 <= gradient) & (gradient <= 30)) {
+        return Err(Refusal::BadGradient);
+    }
+    Ok(())
 }
 
 // The gradient above -30.
@@ -36,7 +38,7 @@ fn slowing(retardation: u16, gradient: i16) -> u64
     requires { Retardation retardation × Gradient gradient }
     ensures { result ≡ slowing retardation gradient }
 {
-    100 * (retardation as u64) + 981 * raised(gradient) - 29430
+    100 * u64::from(retardation) + 981 * raised(gradient) - 29430
 }
 
 // The formula, cleared, up to a full 10 m. No number on the way is above 12,197,442,599.
@@ -44,26 +46,16 @@ fn metres(speed: u16, q: u64) -> u16
     requires { (speed ≤ 120) × (20570 ≤ q) × (q ≤ 179430) }
     ensures { result ≡ full_tens (ratio (top speed q) (bottom q)) }
 {
-    let v = speed as u64;
+    let v = u64::from(speed);
     let top = 625000 * (v * v) + 135 * (v * q);
     let tenfold = 1620 * q;
-    (10 * ((top + (tenfold - 1)) / tenfold)) as u16
+    (10 * top.div_ceil(tenfold)) as u16
 }
 
 // The distance of the board: speed in km/h, retardation in mm/s2, gradient in per mille, a fall negative.
-pub fn distance(speed: u16, retardation: u16, gradient: i16) -> BoardDistance
-    ensures { result ≡ board_distance speed retardation gradient }
+pub fn distance(speed: u16, retardation: u16, gradient: i16) -> Result<u16, Refusal>
+    ensures { distance_of result ≡ board_distance speed retardation gradient }
 {
-    let number = number(speed, retardation, gradient);
-    if number == 0 {
-        let distance = metres(speed, slowing(retardation, gradient));
-        return BoardDistance {
-            number: 0,
-            distance,
-        };
-    }
-    BoardDistance {
-        number,
-        distance: 0,
-    }
+    checked(speed, retardation, gradient)?;
+    Ok(metres(speed, slowing(retardation, gradient)))
 }

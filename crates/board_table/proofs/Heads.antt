@@ -1,10 +1,8 @@
 -- The heads across, as the code reads them.
 use mathlib.Core.Path.{◌≡◌, refl}
-use mathlib.Core.List.{List, [], ◌∷◌}
-use Prim.Native.Nat.{ℕ, zero, suc, ◌<◌}
-use native.Mathlib.Omega.{arith}
+use Prim.Native.Nat.{ℕ, zero, suc}
 use lib.ListN.{get_or}
-use lib.IntN.{ℤ, pos, negsuc}
+use lib.IntN.{pos}
 use mir.Syntax.{w16}
 use mir.Val.{to_z, of_z}
 use Rattle.machine.specs.BoardTable.{table_gradients}

@@ -3,6 +3,7 @@
 
 ghost use Rattle.std.specs.Prelude.{◌≡◌};
 ghost use Rattle.machine.specs.BoardTable.{printed};
+ghost use Rattle.board_table.specs.Cells.{cell_of};
 
 use machine::BoardCell;
 
@@ -24,24 +25,17 @@ pub const DISTANCES: [[u16; 7]; 5] = [
     [650, 680, 710, 740, 780, 820, 870],
 ];
 
-// The cell of a row and a column, with its heads and its retardation; all zero outside the table.
-pub fn printed(row: usize, column: usize) -> BoardCell
-    ensures { result ≡ printed row column }
+// The cell of a row and a column, with its heads and its retardation; none outside the table.
+pub fn printed(row: usize, column: usize) -> Option<BoardCell>
+    ensures { cell_of result ≡ printed row column }
 {
-    if row < 5 {
-        if column < 7 {
-            return BoardCell {
-                speed: SPEEDS[row],
-                retardation: RETARDATION,
-                gradient: GRADIENTS[column],
-                distance: DISTANCES[row][column],
-            };
-        }
+    if row < 5 && column < 7 {
+        return Some(BoardCell {
+            speed: SPEEDS[row],
+            retardation: RETARDATION,
+            gradient: GRADIENTS[column],
+            distance: DISTANCES[row][column],
+        });
     }
-    BoardCell {
-        speed: 0,
-        retardation: 0,
-        gradient: 0,
-        distance: 0,
-    }
+    None
 }

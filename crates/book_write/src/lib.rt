@@ -16,16 +16,17 @@ ghost use Rattle.machine.specs.SiteBook.{
   write_number,
   written_book,
 };
+ghost use Rattle.refusal.specs.Numbers.{number_of};
 
-use machine::{Entry, Site, numbers};
-use settings::{count_in, entry_in, entry_zero, refuse};
+use machine::{Entry, Site};
+use refusal::{Refusal, refuse_if};
+use settings::{count_in, entry_in, entry_zero};
 
 // The entry at place i of n is in its range; past n it is zero.
 fn setting_in(n: u8, i: usize, x: Entry) -> bool
     ensures { result ≡ cond (ltb i n) (entry_in x) (entry_zero x) }
 {
-    let count = n as usize;
-    if i < count {
+    if i < usize::from(n) {
         entry_in(x)
     } else {
         entry_zero(x)
@@ -36,34 +37,18 @@ fn setting_in(n: u8, i: usize, x: Entry) -> bool
 fn settings_in(s: Site) -> bool
     ensures { result ≡ all_below 8 (setting_in s) }
 {
-    let n = s.n;
-    let mut ok = true;
-    let mut i: usize = 0;
-    while i < 8 {
-        let x = s.entries[i];
-        ok = ok & setting_in(n, i, x);
-        i += 1;
-    }
-    ok
+    (0..8).all(|i| setting_in(s.n, i, s.entries[i]))
 }
 
-// The number of settings and an output: 2, 3, 14; 0 where they are taken.
-fn write_number(s: Site, out: &[u8]) -> u8
-    ensures { result ≡ write_number s out.now }
+// What refuses settings and an output: number 2, 3, 14.
+#[tactic(auto, unfolding(machine::specs::SiteBook::write_number))]
+fn check(s: Site, out: &[u8]) -> Result<(), Refusal>
+    ensures { number_of result ≡ write_number s out.now }
 {
-    let n = s.n as usize;
-    let counted = count_in(s.n);
-    let ranged = settings_in(s);
-    let fits = out.len() == 1 + 9 * n;
-    refuse(
-        !counted,
-        numbers::BAD_COUNT,
-        refuse(
-            !ranged,
-            numbers::BAD_SETTING,
-            refuse(!fits, numbers::BAD_OUTPUT_LENGTH, 0),
-        ),
-    )
+    let fits = out.len() == 1 + 9 * usize::from(s.n);
+    refuse_if(!count_in(s.n), Refusal::BadCount)?;
+    refuse_if(!settings_in(s), Refusal::BadSetting)?;
+    refuse_if(!fits, Refusal::BadOutputLength)
 }
 
 // The three bytes of an entry's first part, from a place on. Inside this crate alone: the output has room for them.
@@ -71,9 +56,7 @@ fn put_first(out: &mut [u8], at: usize, x: Entry)
     requires { at + 3 ≤ length out.old }
     ensures { out.new ≡ sets out.old at (first_part x) }
 {
-    out[at] = x.kind;
-    out[at + 1] = x.tracks;
-    out[at + 2] = x.mask;
+    out[at..at + 3].copy_from_slice(&[x.kind, x.tracks, x.mask]);
 }
 
 // The six bytes of an entry's second part, from a place on. Inside this crate alone: the output has room for them.
@@ -81,12 +64,10 @@ fn put_second(out: &mut [u8], at: usize, x: Entry)
     requires { at + 6 ≤ length out.old }
     ensures { out.new ≡ sets out.old at (second_part x) }
 {
-    out[at] = word::low(x.pre);
-    out[at + 1] = word::high(x.pre);
-    out[at + 2] = word::low(x.gap);
-    out[at + 3] = word::high(x.gap);
-    out[at + 4] = word::low(x.pause);
-    out[at + 5] = word::high(x.pause);
+    let [pre_low, pre_high] = x.pre.to_le_bytes();
+    let [gap_low, gap_high] = x.gap.to_le_bytes();
+    let [pause_low, pause_high] = x.pause.to_le_bytes();
+    out[at..at + 6].copy_from_slice(&[pre_low, pre_high, gap_low, gap_high, pause_low, pause_high]);
 }
 
 // The first array. Inside this crate alone: at most eight crossings, and the output has a book's length.
@@ -94,12 +75,8 @@ fn put_firsts(s: Site, out: &mut [u8])
     requires { (s.n ≤ 8) × (length out.old ≡ book_length s.n) }
     ensures { out.new ≡ sets out.old 1 (concat_below s.n (λ i. first_part (setting s i))) }
 {
-    let n = s.n as usize;
-    let mut i: usize = 0;
-    while i < n {
-        let x = s.entries[i];
-        put_first(out, 1 + 3 * i, x);
-        i += 1;
+    for i in 0..usize::from(s.n) {
+        put_first(out, 1 + 3 * i, s.entries[i]);
     }
 }
 
@@ -108,12 +85,9 @@ fn put_seconds(s: Site, out: &mut [u8])
     requires { (s.n ≤ 8) × (length out.old ≡ book_length s.n) }
     ensures { out.new ≡ sets out.old (1 + 3 * s.n) (concat_below s.n (λ i. second_part (setting s i))) }
 {
-    let n = s.n as usize;
-    let mut i: usize = 0;
-    while i < n {
-        let x = s.entries[i];
-        put_second(out, 1 + 3 * n + 6 * i, x);
-        i += 1;
+    let n = usize::from(s.n);
+    for i in 0..n {
+        put_second(out, 1 + 3 * n + 6 * i, s.entries[i]);
     }
 }
 
@@ -127,15 +101,12 @@ fn put_book(s: Site, out: &mut [u8])
     put_seconds(s, out);
 }
 
-// A book written: the number, and the lent bytes hold the book or, refused, what they held.
-pub fn write(s: Site, out: &mut [u8]) -> u8
-    ensures value { result ≡ write_number s out.old }
-    ensures out_after { out.new ≡ written_book s out.old }
+// A book written, or what refuses it: the lent bytes hold the book or, refused, what they held.
+pub fn write(s: Site, out: &mut [u8]) -> Result<(), Refusal>
+    ensures number { number_of result ≡ write_number s out.old }
+    ensures bytes { out.new ≡ written_book s out.old }
 {
-    let refusal = write_number(s, &out[..]);
-    if refusal == 0 {
-        put_book(s, out);
-        return 0;
-    }
-    refusal
+    check(s, out)?;
+    put_book(s, out);
+    Ok(())
 }

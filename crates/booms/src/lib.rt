@@ -50,7 +50,7 @@ pub fn down(kind: u8, booms: [u8; 4]) -> bool
 fn half_closed(report: u8) -> bool
     ensures { result ≡ (eqb report moving || eqb report down) }
 {
-    (report == reports::MOVING) | (report == reports::DOWN)
+    matches!(report, reports::MOVING | reports::DOWN)
 }
 
 // As the kind demands: half booms each moving or down, full booms all down.

@@ -1,28 +1,41 @@
 // The verdict on a sender's event (document 02, T-04).
 #![tactic(auto)]
 
-ghost use Rattle.std.specs.Prelude.{◌≡◌};
+ghost use Rattle.std.specs.Prelude.{◌≡◌, ◌&&◌, leb, IfOk};
 ghost use Rattle.machine.specs.Rights.{may_send};
 ghost use Rattle.machine.specs.Events.{refusal};
-ghost use Rattle.verdict.specs.Cases.{number_of, verdict};
+ghost use Rattle.refusal.specs.Numbers.{hut_number, number_of};
 
-use machine::{Crossing, Entry, Event, numbers};
-use verdict::Verdict;
+use machine::{Crossing, Entry, Event};
+use refusal::Refusal;
+
+// 5 to 8 are asked before the right.
+fn before_right(refusal: Refusal) -> bool
+    ensures { result ≡ (leb 5 (hut_number refusal) && leb (hut_number refusal) 8) }
+{
+    matches!(
+        refusal,
+        Refusal::UnknownCode
+            | Refusal::UnknownCrossing
+            | Refusal::UnknownPlace
+            | Refusal::UnknownValue
+    )
+}
 
 // The verdict with every right, where the sender has it; without it 5 to 8 stand, and all else is 17.
-pub fn judge(n: u8, s: Entry, c: Crossing, sender: u8, e: Event) -> Verdict
-    ensures value { result ≡ verdict (refusal n s c (may_send sender e.code e.value) e) e }
-    ensures result_value { number_of result ≡ refusal n s c (may_send sender e.code e.value) e }
+pub fn judge(n: u8, s: Entry, c: Crossing, sender: u8, e: Event) -> Result<Event, Refusal>
+    ensures number { number_of result ≡ refusal n s c (may_send sender e.code e.value) e }
+    ensures event { IfOk result (λ t. t ≡ e) }
 {
-    let v = verdict::judge(n, s, c, e);
+    let verdict = verdict::judge(n, s, c, e);
     if rights::may_send(sender, e.code, e.value) {
-        return v;
+        return verdict;
     }
-    let Verdict::Refuse(number) = v else {
-        return Verdict::Refuse(numbers::NO_RIGHT);
+    let Err(refusal) = verdict else {
+        return Err(Refusal::NoRight);
     };
-    if number <= numbers::UNKNOWN_VALUE {
-        return Verdict::Refuse(number);
+    if before_right(refusal) {
+        return Err(refusal);
     }
-    Verdict::Refuse(numbers::NO_RIGHT)
+    Err(Refusal::NoRight)
 }

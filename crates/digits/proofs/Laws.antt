@@ -3,14 +3,16 @@ use mathlib.Core.Path.{◌≡◌, refl, sym, ◌∙◌, ap}
 use mathlib.Core.Bool.{Bool, ◌&&◌, ◌||◌}
 use mathlib.Core.List.{List, [], ◌∷◌}
 use Prim.Native.Nat.{ℕ, zero, suc, ◌+◌, ◌-◌, ◌*◌, ◌/◌, ◌%◌, ◌^◌, ◌≤◌, ◌<◌}
+use native.Mathlib.Numerals.{add-one}
 use native.Mathlib.Omega.{arith}
-use native.Mathlib.Nat.{pow-zero, pow-suc, pow-succ', one-le-pow, mod-lt, mod-eq_of_lt, mod-one, mod-add-div, div-one, div-eq_of_lt, add-mul-div_left, add-mul-mod_self_left, div-div-eq-div-mul, add-zero, mul-zero, mul-suc, mul-le-mul_left, mul-le-mul_right, pow-le-pow_right}
+use native.Mathlib.Nat.{pow-zero, pow-suc, pow-succ', one-le-pow, mod-lt, mod-eq_of_lt, mod-one, mod-add-div, div-one, div-eq_of_lt, add-mul-div_left, add-mul-mod_self_left, div-div-eq-div-mul, mul-zero, mul-suc, mul-le-mul_left, mul-le-mul_right, pow-le-pow_right}
 use lib.Dec.{eqb, ltb}
 use lib.Pow.{pow-add, pow-lt, pow_mono, pow_pos}
-use lib.ListN.{length, get_or, set}
+use lib.ListN.{length, get_or, set, length-set}
+use lib.Seq.{get_or-set_same, get_or-set_other}
 use borrow.Author.Tests.{eq-eqb, ne_eqb, lt-ltb, le-ltb}
 use Rattle.machine.specs.Common.{any_below, all_below}
-use Rattle.machine.proofs.Tools.{tab_getD}
+use Rattle.machine.proofs.Tools.{below_suc, tab_getD, tab_same}
 use Rattle.digits.specs.Digits.{digit, digits, joined}
 
 -- the rest of a division by b and p
@@ -177,15 +179,37 @@ reached {k} {n} {t} h l =
     (omega arith, omega arith)
 
 -- Numbers joined, and read back --------------------------------------------------------------------------------------------------
-pub joined_four : (b : ℕ) (l : List ℕ) → length l ≡ 4 → get_or l 0 0 + b * (get_or l 1 0 + b * (get_or l 2 0 + b * get_or l 3 0)) ≡ joined b l
-joined_four b l e = rw (mul-zero b, add-zero (get_or l 3 0)) at (ap (joined b) (tab_getD 4 l 0 e))
+-- a word of bytes, and one digit more, which fits where there are eight at most
+pub bytes_more : (b i : ℕ) {w d : ℕ} → b ≤ 256 → w < 256 ^ i → d < 256 → d + b * w < 256 ^ (i + 1)
+bytes_more b i {w} {d} l m k = let most : b * w ≤ 256 * w = mul-le-mul_right w l in rw (add-one i, pow-succ' 256 i) (omega arith)
 
-pub joined_seven : (l : List ℕ) → length l ≡ 7
-    → get_or l 0 0 + 2 * (get_or l 1 0 + 2 * (get_or l 2 0 + 2 * (get_or l 3 0 + 2 * (get_or l 4 0 + 2 * (get_or l 5 0 + 2 * get_or l 6 0))))) ≡ joined 2 l
-joined_seven l e = rw (add-zero (get_or l 6 0)) at (ap (joined 2) (tab_getD 7 l 0 e))
+pub eight_bytes : {i n : ℕ} → i < n → n ≤ 8 → 256 ^ (i + 1) ≤ 18446744073709551616
+eight_bytes {i} l m = let most : i + 1 ≤ 8 = omega arith in pow-le-pow_right (omega arith) most
+
+-- the next digit
+pub next_digit : (b w i : ℕ) → (w / b ^ i) / b ≡ w / b ^ (i + 1)
+next_digit b w i = rw (add-one i, pow-suc b i) (div-div-eq-div-mul w (b ^ i) b)
 
 pub in_byte : (w : ℕ) {b : ℕ} → (1 ≤ b) × (b ≤ 256) → w % b < 256
 in_byte w {b} h =
     let m : w % b < b = mod-lt w h.0 in
     let k = h.1 in
     omega arith
+
+-- digits found one after the other
+pub record Found (b n w : ℕ) (found : List ℕ) (rest i : ℕ) : Type 0 where
+  pub size : length found ≡ n
+  pub each : (k : ℕ) → k < i → get_or found k 0 ≡ digit b w k
+  pub left : rest ≡ w / b ^ i
+
+pub found_more : (b n w : ℕ) (l : List ℕ) (rest i : ℕ) → Found b n w l rest i → i < n → Found b n w (set l i (rest % b)) (rest / b) (i + 1)
+found_more b n w l rest i h m = record {
+  size = length-set l i (rest % b) ∙ h.size;
+  each = rw (add-one i) (below_suc (λ k. get_or (set l i (rest % b)) k 0 ≡ digit b w k) i
+      (λ k x. get_or-set_other l i k (rest % b) 0 (λ y. omega arith) ∙ h.each k x)
+      (get_or-set_same l i (rest % b) 0 (let x = h.size in omega arith) ∙ rw h.left (sym (digit_at b w i))));
+  left = rw h.left (next_digit b w i);
+}
+
+pub found_all : (b n w : ℕ) (l : List ℕ) (rest i : ℕ) → Found b n w l rest i → i ≡ n → l ≡ digits b n w
+found_all b n w l rest i h e = sym (tab_getD n l 0 h.size) ∙ tab_same n (λ k. get_or l k 0) (digit b w) (λ k m. h.each k (omega arith))

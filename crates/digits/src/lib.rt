@@ -5,14 +5,6 @@
 ghost use Rattle.std.specs.Prelude.{◌≡◌, ◌*◌, ◌^◌, ◌≤◌, ◌<◌, set};
 ghost use Rattle.digits.specs.Digits.{digit, digits, joined};
 
-// A wider number.
-pub fn wide(x: u8) -> u64
-    ensures value { result ≡ x }
-    ensures upper_bound { result ≤ 255 }
-{
-    x as u64
-}
-
 // Digit t of a word, digits of width bits.
 pub fn at(w: u64, width: u64, t: u64) -> u64
     requires { (width < 64) × (width * t < 64) }
@@ -31,48 +23,28 @@ pub fn put(w: u64, width: u64, n: u64, t: u64, v: u64) -> u64
     low - (at(low, width, t) << (width * t)) + (v << (width * t))
 }
 
-// The word of four digits.
-pub fn join(a: [u8; 4], base: u64) -> u64
-    requires { base ≤ 256 }
-    ensures { result ≡ joined base a }
+// The word of N digits, of eight at most.
+pub fn join<const N: usize>(a: [u8; N], base: u64) -> u64
+    requires { (base ≤ 256) × (N ≤ 8) }
+    ensures { result ≡ joined base a.entry }
 {
-    wide(a[0]) + base * (wide(a[1]) + base * (wide(a[2]) + base * wide(a[3])))
+    let mut word: u64 = 0;
+    for i in 0..N {
+        word = u64::from(a[N - 1 - i]) + base * word;
+    }
+    word
 }
 
-// The word of seven bits.
-pub fn join_seven(a: [u8; 7]) -> u64
-    ensures { result ≡ joined 2 a }
-{
-    wide(a[0])
-        + 2 * (wide(a[1])
-            + 2 * (wide(a[2])
-                + 2 * (wide(a[3]) + 2 * (wide(a[4]) + 2 * (wide(a[5]) + 2 * wide(a[6]))))))
-}
-
-// The four digits of a word.
-pub fn part(w: u64, base: u64) -> [u8; 4]
+// The lowest N digits of a word.
+pub fn part<const N: usize>(w: u64, base: u64) -> [u8; N]
     requires { (1 ≤ base) × (base ≤ 256) }
-    ensures { result ≡ digits base 4 w }
+    ensures { result ≡ digits base N w }
 {
-    [
-        (w % base) as u8,
-        (w / base % base) as u8,
-        (w / base / base % base) as u8,
-        (w / base / base / base % base) as u8,
-    ]
-}
-
-// The seven bits of a word.
-pub fn part_seven(w: u64) -> [u8; 7]
-    ensures { result ≡ digits 2 7 w }
-{
-    [
-        (w % 2) as u8,
-        (w / 2 % 2) as u8,
-        (w / 2 / 2 % 2) as u8,
-        (w / 2 / 2 / 2 % 2) as u8,
-        (w / 2 / 2 / 2 / 2 % 2) as u8,
-        (w / 2 / 2 / 2 / 2 / 2 % 2) as u8,
-        (w / 2 / 2 / 2 / 2 / 2 / 2 % 2) as u8,
-    ]
+    let mut found = [0; N];
+    let mut rest = w;
+    for i in 0..N {
+        found[i] = (rest % base) as u8;
+        rest /= base;
+    }
+    found
 }

@@ -1,5 +1,6 @@
 -- One event of the machine as the code takes it: by the entry and the crossing at one place of its arrays.
-use mathlib.Core.Path.{◌≡◌, refl, ◌∙◌}
+use mathlib.Core.Path.{◌≡◌, refl, sym, ◌∙◌}
+use Rattle.std.specs.Prelude.{Result, Ok, Err, IsErrAnd}
 use mathlib.Core.Bool.{Bool, true, false, and-true, and-false}
 use mathlib.Core.List.{List}
 use Prim.Native.Nat.{ℕ, ◌%◌, ◌≤◌, ◌<◌}
@@ -21,13 +22,16 @@ use Rattle.machine.specs.Settling.{settle}
 use Rattle.machine.specs.Step.{touch, apply, written, step}
 use Rattle.machine.proofs.Tools.{by_test, by_cond, sum_at, tab_set}
 use Rattle.machine.proofs.Ranges.{plant_reads, entry_of}
-use Rattle.machine.proofs.Taken.{taken_answer, taken_tests, taken_accepted, taken_crossing}
+use Rattle.machine.proofs.Taken.{taken_answer, refused_answer, taken_tests, taken_accepted, taken_crossing}
+use Rattle.refusal.specs.declared.Refusal.{Refusal}
+use Rattle.refusal.specs.Numbers.{hut_number}
+use Rattle.refusal.proofs.Numbers.{never_0}
+use Rattle.event.specs.declared.Taken.{Taken}
+use Rattle.event.specs.Answers.{answer_of}
 use Rattle.plant.proofs.Laws.{unread, crossing_read}
 use Rattle.train.specs.Room.{Room}
 use Rattle.train.proofs.Taken.{taken_room}
 use Rattle.plant_tick.specs.Ticks.{ticked_plant}
-use Rattle.verdict.specs.declared.Verdict.{Verdict}
-use Rattle.verdict.specs.Cases.{verdict}
 
 -- a crossing that the plant lacks is refused before anything is read there
 unknown_at : (n : ℕ) (s z : Entry) (c d : Crossing) (may : Bool) (e : Event) → leb (crossing_limit n e.code) e.crossing ≡ true → refusal n s c may e ≡ refusal n z d may e
@@ -100,11 +104,16 @@ module _ (p : Plant) (x : Command) where
       let l = taken_crossing p x q k in
       taken_room p.site.n (entry p e.crossing) (crossing p e.crossing) e (entry_of h e.crossing l) (h.used e.crossing l) (taken_accepted p x q e.crossing (eq-eqb e.crossing e.crossing refl))
 
-  -- a verdict by what stands at the event's crossing modulo 8, and by its right, is one by the event's number
-  pub judged : (v : Verdict) (may : Bool) → length p.crossings ≡ 8 → in_range p ≡ true → is_known x.from ≡ true → may ≡ entitled x.from e
-      → v ≡ verdict (refusal p.site.n (get_or p.site.entries (e.crossing % 8) no_entry) (get_or p.crossings (e.crossing % 8) unread) may e) e
-      → v ≡ verdict (number p x) e
-  judged v may len q k r j =
+  -- the number by what stands at the event's crossing modulo 8, and by its right, is the event's number
+  pub judged : (k : ℕ) (may : Bool) → length p.crossings ≡ 8 → in_range p ≡ true → is_known x.from ≡ true → may ≡ entitled x.from e
+      → k ≡ refusal p.site.n (get_or p.site.entries (e.crossing % 8) no_entry) (get_or p.crossings (e.crossing % 8) unread) may e
+      → k ≡ number p x
+  judged k may len q known r j =
       let l : e.crossing % 8 < length p.crossings = omega arith in
       let at = refusal_at p.site.n p.site.entries p.crossings may e (plant_reads p q).count in
-      j ∙ rw (crossing_read p.crossings (e.crossing % 8) l, at, r, number_own q k)
+      j ∙ rw (crossing_read p.crossings (e.crossing % 8) l, at, r, number_own q known)
+
+  -- a refusal with the event's number is the machine's answer
+  pub refused_by : (result : Result Taken Refusal) (refusal : Refusal) → IsErrAnd result (λ r. r ≡ refusal) → hut_number refusal ≡ number p x → answer_of p result ≡ step p x
+  refused_by (Ok t) refusal q n = absurd q
+  refused_by (Err r) refusal q n = rw (q, n) (sym (refused_answer p x (λ z. never_0 refusal (n ∙ z))))

@@ -3,9 +3,9 @@
 
 ghost use Rattle.std.specs.Prelude.{◌≡◌};
 ghost use Rattle.machine.specs.Common.{all_below};
-ghost use Rattle.machine.specs.Range.{report_limit, boom_in, crossing_in, lamp_in, left_limit, phase_in};
+ghost use Rattle.machine.specs.Range.{report_limit, boom_in, crossing_in, lamp_in, left_limit, phase_in, track_in};
 
-use machine::{Crossing, Entry, kinds, reports};
+use machine::{Crossing, Entry, reports};
 
 // The highest report of a boom (document 02, T-02); a boom that the crossing lacks stays at 0.
 fn report_limit(present: bool) -> u8
@@ -14,40 +14,40 @@ fn report_limit(present: bool) -> u8
     if present { reports::LOST } else { 0 }
 }
 
+// What each track holds is in its range.
+fn tracks_in(s: Entry, c: Crossing) -> bool
+    ensures { result ≡ all_below 4 (track_in s c) }
+{
+    (0..4).all(|t| track::track_in(s, c, t))
+}
+
 // The last report of each boom is in its range.
 fn booms_in(s: Entry, c: Crossing) -> bool
     ensures { result ≡ all_below 4 (boom_in s c) }
 {
     let count = kind::boom_count(s.kind);
-    (c.booms[0] <= report_limit(0 < count))
-        & (c.booms[1] <= report_limit(1 < count))
-        & (c.booms[2] <= report_limit(2 < count))
-        & (c.booms[3] <= report_limit(3 < count))
+    (0..4).all(|b| c.booms[b] <= report_limit(b < usize::from(count)))
 }
 
 // The last report of each lamp is 0 or 1; that of a lamp which the crossing lacks stays at 0 (document 02, T-09).
 fn lamps_in(s: Entry, c: Crossing) -> bool
     ensures { result ≡ all_below 7 (lamp_in s c) }
 {
-    let boom = kinds::old_booms(s.kind) as u8;
-    (c.lamps[0] <= 1)
-        & (c.lamps[1] <= 1)
-        & (c.lamps[2] <= 1)
-        & (c.lamps[3] <= 1)
-        & (c.lamps[4] <= 1)
-        & (c.lamps[5] <= boom)
-        & (c.lamps[6] <= boom)
+    let count = kind::lamp_count(s.kind);
+    (0..7).all(|l| c.lamps[l] <= u8::from(l < usize::from(count)))
 }
 
 // The timer is in the range that its phase gives it.
+#[tactic(auto, unfolding(machine::specs::Range::phase_in))]
 fn phase_in(s: Entry, phase: u8, timer: u16) -> bool
     ensures { result ≡ phase_in s phase timer }
 {
     match phase {
-        1 => (1 <= timer) & (timer <= s.pre),
-        2 => kind::four_booms(s.kind) & ((1 <= timer) & (timer <= s.gap)),
-        _ => (timer == 0)
-            & ((phase == 0) | (phase == 3) | ((phase == 4) & !kind::lights_only(s.kind))),
+        1 => (1..=s.pre).contains(&timer),
+        2 => kind::four_booms(s.kind) && (1..=s.gap).contains(&timer),
+        0 | 3 => timer == 0,
+        4 => timer == 0 && !kind::lights_only(s.kind),
+        _ => false,
     }
 }
 
@@ -62,10 +62,7 @@ fn left_limit(s: Entry, phase: u8) -> u16
 pub fn crossing_in(s: Entry, c: Crossing) -> bool
     ensures { result ≡ crossing_in s c }
 {
-    (track::track_in(s, c, 0)
-        & track::track_in(s, c, 1)
-        & track::track_in(s, c, 2)
-        & track::track_in(s, c, 3))
+    tracks_in(s, c)
         & booms_in(s, c)
         & lamps_in(s, c)
         & ((c.kiosk <= 1) & (c.operator <= 1))

@@ -12,21 +12,21 @@ use machine::{Entry, kinds};
 pub fn dependent(s: Entry, t: usize) -> bool
     ensures { result ≡ dependent s t }
 {
-    if t < 8 { (s.mask >> t) % 2 == 1 } else { false }
+    t < 8 && (s.mask >> t) % 2 == 1
 }
 
 // Lights only: a kind without booms.
 pub fn lights_only(kind: u8) -> bool
     ensures { result ≡ lights_only kind }
 {
-    (kind == kinds::LIGHTS) | (kind == kinds::OLD_LIGHTS)
+    matches!(kind, kinds::LIGHTS | kinds::OLD_LIGHTS)
 }
 
 // Booms over half of the road.
 pub fn half_booms(kind: u8) -> bool
     ensures { result ≡ half_booms kind }
 {
-    (kind == kinds::HALF) | (kind == kinds::OLD_HALF)
+    matches!(kind, kinds::HALF | kinds::OLD_HALF)
 }
 
 // Booms left of the road too.
@@ -40,7 +40,7 @@ pub fn four_booms(kind: u8) -> bool
 pub fn old_sheet(kind: u8) -> bool
     ensures { result ≡ old_sheet kind }
 {
-    (kind == kinds::OLD_LIGHTS) | (kind == kinds::OLD_HALF)
+    matches!(kind, kinds::OLD_LIGHTS | kinds::OLD_HALF)
 }
 
 // The booms that a kind has.

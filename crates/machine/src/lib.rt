@@ -15,7 +15,7 @@ ghost use Rattle.machine.specs.Plant.{fresh_crossing, fresh_plant, lamp_count};
 // The settings of one crossing: kind 1 to 6, tracks 1 to 4, the mask of dependent tracks; in ticks F, G and M, the time for
 // motorists between closures (document 02, T-06).
 #[repr(C)]
-#[derive(Clone, Copy)]
+#[derive(Clone, Copy, Default, PartialEq, Eq)]
 pub struct Entry {
     pub kind: u8,
     pub tracks: u8,
@@ -27,7 +27,7 @@ pub struct Entry {
 
 // The settings of a plant: n crossings, the entries past n all zero.
 #[repr(C)]
-#[derive(Clone, Copy)]
+#[derive(Clone, Copy, Default, PartialEq, Eq)]
 pub struct Site {
     pub n: u8,
     pub entries: [Entry; 8],
@@ -42,7 +42,7 @@ pub struct Site {
 // Phases: 0 open, 1 warning, 2 right booms ordered down, 3 all ordered down, 4 raising.
 // Left: the ticks left to motorists before a warning may begin (document 02, T-06). Out: the ticks out of normal.
 #[repr(C)]
-#[derive(Clone, Copy)]
+#[derive(Clone, Copy, Default, PartialEq, Eq)]
 pub struct Crossing {
     pub calling: [u8; 4],
     pub waiting: [u8; 4],
@@ -170,8 +170,8 @@ impl Crossing {
     pub fn fresh(used: bool, kind: u8) -> Self
         ensures { result ≡ fresh_crossing (bit used (lamp_count kind)) }
     {
-        let whole = used as u8;
-        let boom = (used & kinds::old_booms(kind)) as u8;
+        let whole = u8::from(used);
+        let boom = u8::from(used & kinds::old_booms(kind));
         Crossing {
             calling: [0; 4],
             waiting: [0; 4],

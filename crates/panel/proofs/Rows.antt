@@ -1,19 +1,20 @@
--- A row, stored byte by byte, and the rows of a plant.
-use mathlib.Core.Path.{◌≡◌, refl, sym}
-use mathlib.Core.List.{List}
-use Prim.Native.Nat.{ℕ, ◌+◌, ◌*◌, ◌≤◌}
+-- A row, stored whole, and the rows of a plant.
+use mathlib.Core.Path.{◌≡◌, refl, sym, ◌∙◌}
+use mathlib.Core.List.{List, append_assoc}
+use Prim.Native.Nat.{ℕ, ◌+◌, ◌-◌, ◌*◌, ◌≤◌}
 use native.Mathlib.Omega.{arith}
-use lib.ListN.{length}
-use lib.Seq.{paste, sets, sets-eq, take_all}
+use lib.ListN.{length, take, drop}
+use lib.Seq.{sets, sets-eq}
+use borrow.Rule.Slice.PartMut.{put_mid, Post-is}
 use Rattle.machine.specs.declared.Plant.{Plant}
 use Rattle.machine.specs.Plant.{entry, crossing}
 use Rattle.machine.specs.Rights.{sees}
 use Rattle.machine.specs.Panel.{row, panel, seen, view}
 use Rattle.machine.proofs.Tools.{length_concat}
 
--- a list of n, copied whole
-pub paste_whole : (d s : List ℕ) (at n : ℕ) → length s ≡ n → at + n ≤ length d → paste d at s n ≡ sets d at s
-paste_whole d s at n e h = rw (← e, take_all (length s) s (omega arith)) (sym (sets-eq s d at (omega arith)))
+-- a list of n, copied over those from a place on
+pub put_whole : (d s : List ℕ) (at n : ℕ) → length s ≡ n → at + n ≤ length d → put_mid at (at + n - at) d s ≡ sets d at s
+put_whole d s at n e h = rw (← e, Post-is at (at + length s) d (omega arith)) (sym (append_assoc (take at d) s (drop (at + length s) d)) ∙ sym (sets-eq s d at (omega arith)))
 
 -- the rows of a plant as a sender sees them
 abbrev pub row_at : ℕ → Plant → ℕ → List ℕ

@@ -1,23 +1,12 @@
 // The panel: a row for each crossing, drawn into a lent output (document 01, "Panel"), as a sender sees it (document 02, T-04).
 #![tactic(auto)]
 
-ghost use Rattle.std.specs.Prelude.{◌≡◌, ◌+◌, ◌*◌, ◌≤◌, length};
-ghost use Rattle.std.proofs.lemmas.List.Edits.{sets};
+ghost use Rattle.std.specs.Prelude.{◌≡◌, ◌*◌, ◌≤◌, length};
 ghost use Rattle.machine.specs.Panel.{panel, view, draw_number, drawn};
+ghost use Rattle.refusal.specs.Numbers.{number_of};
 
-use machine::{Plant, numbers, senders};
-
-// Puts a row into the output from a place on. Inside this crate alone: it fits.
-fn put(out: &mut [u8], at: usize, row: [u8; 16])
-    requires { at + 16 ≤ length out.old }
-    ensures { out.new ≡ sets out.old at row }
-{
-    let mut k: usize = 0;
-    while k < 16 {
-        out[at + k] = row[k];
-        k += 1;
-    }
-}
+use machine::{Plant, senders};
+use refusal::Refusal;
 
 // Draws what a sender sees of a plant of at most eight crossings into an output of its length. For other crates alone.
 pub fn show(p: Plant, sender: u8, out: &mut [u8])
@@ -25,14 +14,13 @@ pub fn show(p: Plant, sender: u8, out: &mut [u8])
     ensures { out.new ≡ view sender p }
 {
     let site = p.site;
-    let n = site.n as usize;
-    let mut i: usize = 0;
-    while i < n {
-        let s = site.entries[i];
-        let c = p.crossings[i];
-        let row = rights::seen(sender, panel_row::row(p.beat, s, c));
-        put(out, 16 * i, row);
-        i += 1;
+    let n = usize::from(site.n);
+    for i in 0..n {
+        let row = rights::seen(
+            sender,
+            panel_row::row(p.beat, site.entries[i], p.crossings[i]),
+        );
+        out[16 * i..16 * i + 16].copy_from_slice(&row);
     }
 }
 
@@ -44,22 +32,20 @@ pub fn fill(p: Plant, out: &mut [u8])
     show(p, senders::DETECTION, out);
 }
 
-// Draws what a sender sees. The number is 0, or 15, 16 or 14 with the output left as it was.
-pub fn draw(p: Plant, sender: u8, out: &mut [u8]) -> u8
-    ensures number { result ≡ draw_number p sender out.old }
+// Draws what a sender sees; where it is refused (15, 16, 14) the output is left as it was.
+pub fn draw(p: Plant, sender: u8, out: &mut [u8]) -> Result<(), Refusal>
+    ensures number { number_of result ≡ draw_number p sender out.old }
     ensures bytes { out.new ≡ drawn p sender out.old }
 {
-    if plant::in_range(p) {
-        if rights::known(sender) {
-            let site = p.site;
-            let n = site.n as usize;
-            if out.len() == 16 * n {
-                show(p, sender, out);
-                return 0;
-            }
-            return numbers::BAD_OUTPUT_LENGTH;
-        }
-        return numbers::UNKNOWN_SENDER;
+    if !plant::in_range(p) {
+        return Err(Refusal::OutOfRange);
     }
-    numbers::OUT_OF_RANGE
+    if !rights::known(sender) {
+        return Err(Refusal::UnknownSender);
+    }
+    if out.len() != 16 * usize::from(p.site.n) {
+        return Err(Refusal::BadOutputLength);
+    }
+    show(p, sender, out);
+    Ok(())
 }

@@ -23,5 +23,5 @@ pub fn released(s: Entry, route: [u8; 4], secured: bool) -> u8
 pub fn sum(count: [u8; 4]) -> u16
     ensures { result ≡ sum4 (λ t. get_or count t 0) }
 {
-    word::wide(count[0]) + word::wide(count[1]) + word::wide(count[2]) + word::wide(count[3])
+    count.iter().map(|n| u16::from(*n)).sum()
 }

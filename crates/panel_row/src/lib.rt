@@ -16,27 +16,25 @@ pub fn row(beat: u8, s: Entry, c: Crossing) -> [u8; 16]
     let shown = signals::all(s, c, normal, secured);
     let lit = signals::lit(beat, s, c, normal, shown);
     let booms = c.booms;
-    let calls = c.calling;
-    let waits = c.waiting;
     let route = c.route;
-    let calling = panel_bytes::sum(calls);
-    let waiting = panel_bytes::sum(waits);
+    let [calling_low, calling_high] = panel_bytes::sum(c.calling).to_le_bytes();
+    let [waiting_low, waiting_high] = panel_bytes::sum(c.waiting).to_le_bytes();
     [
         shown.road,
         lit,
-        bits::bit(!normal & !(has_booms & booms::down(s.kind, booms))),
+        u8::from(!normal & !(has_booms & booms::down(s.kind, booms))),
         shown.booms,
-        bits::bit(has_booms & ((c.phase == 2) | (c.phase == 3))),
-        bits::bit(kind::four_booms(s.kind) & (c.phase == 3)),
+        u8::from(has_booms & ((c.phase == 2) | (c.phase == 3))),
+        u8::from(kind::four_booms(s.kind) & (c.phase == 3)),
         shown.signal,
         shown.distant,
         panel_bytes::released(s, route, secured),
         bits::flags(normal, secured, Crossing::OVERDUE < c.out, false),
         c.phase,
         bits::flags(c.kiosk == 1, c.operator == 1, false, false),
-        word::low(calling),
-        word::high(calling),
-        word::low(waiting),
-        word::high(waiting),
+        calling_low,
+        calling_high,
+        waiting_low,
+        waiting_high,
     ]
 }

@@ -22,18 +22,13 @@ pub fn tick_all(site: Site, beat: u8, crossings: [Crossing; 8]) -> Ticks
     ensures value { result ≡ ticked_plant (record { site = site; beat = beat; crossings = crossings }) }
     ensures written_bound { result.written ≤ 16320 }
 {
-    let n = site.n as usize;
+    let n = usize::from(site.n);
     let mut next = crossings;
     let mut written: u32 = 0;
-    let mut i: usize = 0;
-    while i < n {
-        let s = site.entries[i];
-        let c = next[i];
-        let t = tick::tick(s, c);
-        let d = t.crossing;
-        next[i] = d;
+    for i in 0..n {
+        let t = tick::tick(site.entries[i], next[i]);
+        next[i] = t.crossing;
         written += t.written;
-        i += 1;
     }
     Ticks {
         beat: (beat + 1) % 4,

@@ -1,7 +1,7 @@
 -- Quiet ticks: what a tick makes of a crossing at which it only counts.
 use mathlib.Core.Path.{◌≡◌, refl, sym, ◌∙◌}
 use mathlib.Core.Bool.{Bool, true, false, ◌&&◌, true≢false}
-use Prim.Native.Nat.{ℕ, zero, suc, pred, ◌+◌, ◌-◌, ◌≤◌, ◌<◌}
+use Prim.Native.Nat.{ℕ, zero, suc, pred, min, ◌+◌, ◌-◌, ◌≤◌, ◌<◌}
 use native.Mathlib.Omega.{arith}
 use lib.Dec.{eqb, ltb, leb}
 use lib.ListN.{length}
@@ -12,7 +12,7 @@ use Rattle.machine.specs.Plant.{overlong_ticks, most_ticks, lights_only, old_she
 use Rattle.machine.specs.Effects.{tick, overlong, releases, phase_ticked, timer_ticked}
 use Rattle.machine.specs.Settling.{phase_settled, timer_settled, left_settled, out_settled, settle}
 use Rattle.machine.proofs.Tools.{by_test, by_cond, tab_getD}
-use Rattle.quiet.specs.Passing.{out_after, passed, ticks_left, sheet_left, smaller, opens, span}
+use Rattle.quiet.specs.Passing.{out_after, passed, ticks_left, sheet_left, opens, span}
 
 -- Counts ---------------------------------------------------------------------------------------------------------------------------
 -- a count that does not end within n ticks
@@ -103,14 +103,6 @@ left_runs count n l k b = by_test (eqb count 0)
     (λ q. let z : count ≡ 0 = eqb-true _ _ q in rw q (eq-eqb (count - suc k) 0 (omega arith)))
     (λ q. let z : count ≡ 0 → ⊥ = eqb-false _ _ q in let m : n ≤ count - 1 = rw q at l in rw q (ne_eqb (count - suc k) 0 (λ y. omega arith)))
 
-smaller_left : (a b : ℕ) → smaller a b ≤ a
-unfolding smaller
-smaller_left a b = by_cond (λ x. x ≤ a) (ltb a b) (λ _. omega arith) (λ q. let m : b ≤ a = ltb-false _ _ q in m)
-
-smaller_right : (a b : ℕ) → smaller a b ≤ b
-unfolding smaller
-smaller_right a b = by_cond (λ x. x ≤ b) (ltb a b) (λ q. let m : a < b = ltb-true _ _ q in omega arith) (λ _. omega arith)
-
 -- the 1959 sheet does not release within that many ticks
 not_overlong : (s : Entry) (c : Crossing) → Calm s c → (k : ℕ) → k < sheet_left s c → overlong s (passed s k c) ≡ false
 unfolding overlong passed out_after sheet_left
@@ -128,15 +120,7 @@ pub quiet_span : (s : Entry) (c : Crossing) → Tracks c → Calm s c → Quiet 
 unfolding span
 quiet_span s c l h = by_test (opens s c)
     (λ q. rw q (record { next = λ k b. absurd (omega arith); none = λ k b. absurd (omega arith); top = h.top }))
-    (λ q. let x = smaller (ticks_left c.countdown) (ticks_left c.timer) in
-    let y = smaller x (ticks_left c.left) in
-    let n = smaller y (sheet_left s c) in
-    let a = smaller_left y (sheet_left s c) in
-    let b = smaller_right y (sheet_left s c) in
-    let f = smaller_left x (ticks_left c.left) in
-    let r = smaller_right x (ticks_left c.left) in
-    let i = smaller_left (ticks_left c.countdown) (ticks_left c.timer) in
-    let j = smaller_right (ticks_left c.countdown) (ticks_left c.timer) in
+    (λ q. let n = min (min (min (ticks_left c.countdown) (ticks_left c.timer)) (ticks_left c.left)) (sheet_left s c) in
     let d : Lasts n c.countdown = left_lasts c.countdown n (omega arith) in
     let t : Lasts n c.timer = left_lasts c.timer n (omega arith) in
     let e : (k : ℕ) → k < n → eqb (c.left - suc k) 0 ≡ eqb c.left 0 = left_runs c.left n (omega arith) in

@@ -1,5 +1,5 @@
 -- Quiet ticks: what they make of a crossing, and how many of them lie ahead.
-use Rattle.std.specs.Prelude.{Bool, cond, not, ◌&&◌, ℕ, ◌+◌, ◌-◌, eqb, ltb}
+use Rattle.std.specs.Prelude.{Bool, cond, not, ◌&&◌, ℕ, ◌+◌, ◌-◌, eqb, ltb, min}
 use Rattle.machine.specs.declared.Entry.{Entry}
 use Rattle.machine.specs.declared.Crossing.{Crossing}
 use Rattle.machine.specs.Plant.{overlong_ticks, most_ticks, old_sheet, boom, booms_up, normal}
@@ -39,14 +39,10 @@ ticks_left count = cond (eqb count 0) long (count - 1)
 unfoldable pub sheet_left : Entry → Crossing → ℕ
 sheet_left s c = cond (old_sheet s.kind && not (normal s c)) (overlong_ticks - c.out) long
 
--- the smaller of two
-unfoldable pub smaller : ℕ → ℕ → ℕ
-smaller a b = cond (ltb a b) a b
-
 -- in phase 4 with every boom up: the next tick moves it on
 unfoldable pub opens : Entry → Crossing → Bool
 opens s c = eqb c.phase 4 && booms_up s.kind (boom c)
 
 -- the quiet ticks that lie ahead of a crossing that has settled
 unfoldable pub span : Entry → Crossing → ℕ
-span s c = cond (opens s c) 0 (smaller (smaller (smaller (ticks_left c.countdown) (ticks_left c.timer)) (ticks_left c.left)) (sheet_left s c))
+span s c = cond (opens s c) 0 (min (min (min (ticks_left c.countdown) (ticks_left c.timer)) (ticks_left c.left)) (sheet_left s c))

@@ -1,20 +1,13 @@
 // Quiet ticks: at most crossings a tick only counts. What k of them make of a crossing, and how many of them lie ahead.
 #![tactic(auto)]
 
-ghost use Rattle.std.specs.Prelude.{◌≡◌, ◌-◌, ◌≤◌};
-ghost use Rattle.machine.specs.Plant.{normal};
+ghost use Rattle.std.specs.Prelude.{◌≡◌, ◌≤◌};
 ghost use Rattle.lane.specs.Lanes.{crossing_of};
-ghost use Rattle.quiet.specs.Passing.{out_after, passed, long, ticks_left, sheet_left, smaller, opens, span};
+ghost use Rattle.quiet.specs.Passing.{out_after, passed, long, ticks_left, sheet_left, opens, span};
 
+use form::Form;
 use lane::Lane;
 use machine::Entry;
-
-// A count lowered by k ticks.
-pub fn lowered(count: u64, k: u64) -> u64
-    ensures { result ≡ count - k }
-{
-    if k < count { count - k } else { 0 }
-}
 
 // Ticks out of normal k quiet ticks later.
 fn out_after(normal: bool, k: u64, out: u64) -> u64
@@ -23,34 +16,24 @@ fn out_after(normal: bool, k: u64, out: u64) -> u64
     if normal {
         return out;
     }
-    if k < lowered(1080, out) {
+    if k < 1080u64.saturating_sub(out) {
         return out + k;
     }
     1080
-}
-
-// Normal position.
-fn is_normal(s: Entry, l: Lane) -> bool
-    ensures { result ≡ normal s (crossing_of l) }
-{
-    (l.phase == 0) & lane_settle::up(s.kind, l.booms)
 }
 
 // A lane k quiet ticks later.
 pub fn advance(s: Entry, k: u64, l: Lane) -> Lane
     ensures { crossing_of result ≡ passed s k (crossing_of l) }
 {
-    let normal = is_normal(s, l);
-    let countdown = lowered(l.countdown, k);
-    let timer = lowered(l.timer, k);
-    let left = lowered(l.left, k);
-    let out = out_after(normal, k, l.out);
-    let mut d = l;
-    d.countdown = countdown;
-    d.timer = timer;
-    d.left = left;
-    d.out = out;
-    d
+    let normal = position::is_normal(s, l);
+    Lane {
+        countdown: l.countdown.saturating_sub(k),
+        timer: l.timer.saturating_sub(k),
+        left: l.left.saturating_sub(k),
+        out: out_after(normal, k, l.out),
+        ..l
+    }
 }
 
 // The quiet ticks of a count.
@@ -68,28 +51,17 @@ fn sheet_left(s: Entry, l: Lane) -> u64
     ensures value { result ≡ sheet_left s (crossing_of l) }
     ensures upper_bound { result ≤ long }
 {
-    if kind::old_sheet(s.kind) & !is_normal(s, l) {
-        return lowered(1079, l.out);
+    if kind::old_sheet(s.kind) & !position::is_normal(s, l) {
+        return 1079u64.saturating_sub(l.out);
     }
     8192
-}
-
-// The smaller of two.
-fn smaller(a: u64, b: u64) -> u64
-    ensures value { result ≡ smaller a b }
-    ensures upper_bound { result ≤ b }
-{
-    if a < b {
-        return a;
-    }
-    b
 }
 
 // Phase 4 with every boom up.
 fn opens(s: Entry, l: Lane) -> bool
     ensures { result ≡ opens s (crossing_of l) }
 {
-    (l.phase == 4) & lane_settle::up(s.kind, l.booms)
+    (l.phase == 4) & l.booms_up(s.kind)
 }
 
 // The quiet ticks that lie ahead of a settled lane.
@@ -100,9 +72,8 @@ pub fn span(s: Entry, l: Lane) -> u64
     if opens(s, l) {
         return 0;
     }
-    let counts = smaller(
-        smaller(ticks_left(l.countdown), ticks_left(l.timer)),
-        ticks_left(l.left),
-    );
-    smaller(counts, sheet_left(s, l))
+    ticks_left(l.countdown)
+        .min(ticks_left(l.timer))
+        .min(ticks_left(l.left))
+        .min(sheet_left(s, l))
 }

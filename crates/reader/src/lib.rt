@@ -1,12 +1,14 @@
-// The event sheet: its size, its number, and a reader that hands out the event at a place (document 01, "Event sheet and
-// program"). The checker covers no function with a struct that holds a slice, so the last three here are proved by hand.
+// The event sheet: its size, and a reader that opens a whole sheet and hands out the event at a place (document 01, "Event sheet and
+// program").
 #![tactic(auto)]
 
-ghost use Rattle.std.specs.Prelude.{◌≡◌, ◌≤◌, ◌<◌, length};
+ghost use Rattle.std.specs.Prelude.{◌≡◌, ◌≤◌, ◌<◌, length, IfOk};
 ghost use Rattle.machine.specs.Sheet.{sheet_size, sheet_event, sheet_number};
+ghost use Rattle.refusal.specs.Numbers.{number_of};
 ghost use Rattle.reader.specs.Whole.{Whole};
 
-use machine::{Event, numbers};
+use machine::Event;
+use refusal::{Refusal, refuse_if};
 
 // The longest sheet, in events.
 pub const LIMIT: usize = 4096;
@@ -17,43 +19,11 @@ pub fn size(sheet: &[u8]) -> usize
     ensures value { result ≡ sheet_size sheet.now }
     ensures upper_bound { result < 65536 }
 {
-    word::join(sheet[0], sheet[1]) as usize
-}
-
-// A sheet's own number: 4, 2, 4, or 0.
-pub fn number(sheet: &[u8]) -> u8
-    ensures { result ≡ sheet_number sheet.now 0 }
-{
-    if sheet.len() < 2 {
-        return numbers::BAD_SHEET_LENGTH;
-    }
-    let m = size(sheet);
-    if LIMIT < m {
-        return numbers::BAD_COUNT;
-    }
-    if sheet.len() == 2 + 4 * m {
-        0
-    } else {
-        numbers::BAD_SHEET_LENGTH
-    }
-}
-
-// The work: event k of a whole sheet of m events. Inside this crate alone.
-fn read_event(sheet: &[u8], m: usize, k: usize) -> Event
-    requires { Whole sheet.now m × (k < m) }
-    ensures { result ≡ sheet_event sheet.now k }
-{
-    let triple = 2 + m + 3 * k;
-    Event {
-        code: sheet[2 + k],
-        crossing: sheet[triple],
-        place: sheet[triple + 1],
-        value: sheet[triple + 2],
-    }
+    usize::from(u16::from_le_bytes([sheet[0], sheet[1]]))
 }
 
 // A whole sheet and its size in events.
-#[derive(Clone, Copy)]
+#[derive(Clone, Copy, Debug, PartialEq, Eq)]
 pub struct SheetReader<'a> {
     pub sheet: &'a [u8],
     pub size: usize,
@@ -67,20 +37,29 @@ impl<'a> SheetReader<'a> {
         SheetReader { sheet, size }
     }
 
+    // The reader of a sheet that is whole; the others are refused by 4, 2, 4.
+    pub fn open(sheet: &'a [u8]) -> Result<SheetReader<'a>, Refusal>
+        ensures number { number_of result ≡ sheet_number sheet.now 0 }
+        ensures whole { IfOk result (λ r. (r.sheet ≡ sheet.entry) × Whole sheet.now r.size) }
+    {
+        refuse_if(sheet.len() < 2, Refusal::BadSheetLength)?;
+        let m = size(sheet);
+        refuse_if(LIMIT < m, Refusal::BadCount)?;
+        refuse_if(sheet.len() != 2 + 4 * m, Refusal::BadSheetLength)?;
+        Ok(SheetReader::new(sheet, m))
+    }
+
     // The event at place k of a whole sheet. For other crates alone.
     pub fn event_at(self, k: usize) -> Event
         requires { Whole self.sheet.now self.size × (k < self.size) }
         ensures { result ≡ sheet_event self.entry.sheet.now k }
     {
-        read_event(self.sheet, self.size, k)
+        let triple = 2 + self.size + 3 * k;
+        Event {
+            code: self.sheet[2 + k],
+            crossing: self.sheet[triple],
+            place: self.sheet[triple + 1],
+            value: self.sheet[triple + 2],
+        }
     }
-}
-
-// Event k of a whole sheet of m events, by its reader: the parameters are plain, so callers need no proof by hand. For other
-// crates alone.
-pub fn event_at(sheet: &[u8], m: usize, k: usize) -> Event
-    requires { Whole sheet.now m × (k < m) }
-    ensures { result ≡ sheet_event sheet.now k }
-{
-    SheetReader::new(sheet, m).event_at(k)
 }

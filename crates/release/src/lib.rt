@@ -1,57 +1,50 @@
 // A release that completes on a tick (document 01, "Events"), that of the 1959 sheet too (document 02, T-09), and the trains that
-// it writes off.
+// it writes off, in every form of a crossing.
 #![tactic(auto)]
 
-ghost use Rattle.std.specs.Prelude.{◌≡◌, ◌+◌, ◌≤◌};
+ghost use Rattle.std.specs.Prelude.{◌≡◌, ◌≤◌};
 ghost use Rattle.machine.specs.Common.{bit};
 ghost use Rattle.machine.specs.Plant.{total};
 ghost use Rattle.machine.specs.Effects.{overlong, releases};
 
+use form::{Field, Form, Number};
 use machine::{Crossing, Entry};
 
 // The 1959 sheet's own release: out of normal for too long, no hold on and every approach free (document 02, T-09).
-fn overlong(s: Entry, c: Crossing) -> bool
-    ensures { result ≡ overlong s c }
+#[tactic(auto, unfolding(machine::specs::Effects::overlong))]
+fn overlong<F: Form>(s: Entry, f: F) -> bool
+    ensures { result ≡ overlong s (F.crossing f) }
 {
-    let occupied = c.occupied;
     kind::old_sheet(s.kind)
-        & (Crossing::OVERLONG <= c.out)
-        & !((c.kiosk == 1) | (c.operator == 1) | reason::any_on(occupied))
+        & (u64::from(Crossing::OVERLONG) <= f.number(Number::Out))
+        & !((f.number(Number::Kiosk) == 1)
+            | (f.number(Number::Operator) == 1)
+            | f.any(Field::Occupied))
 }
 
 // A release completes on this tick: that of the 1959 sheet, or a running countdown comes to 0.
-pub fn completes(s: Entry, c: Crossing) -> bool
-    ensures { result ≡ releases s c }
+pub fn completes<F: Form>(s: Entry, f: F) -> bool
+    ensures { result ≡ releases s (F.crossing f) }
 {
-    overlong(s, c) | (c.countdown == 1)
-}
-
-// The trains of one track.
-fn trains(calling: u8, waiting: u8) -> u32
-    ensures value { result ≡ calling + waiting }
-    ensures upper_bound { result ≤ 510 }
-{
-    (calling as u32) + (waiting as u32)
+    overlong(s, f) | (f.number(Number::Countdown) == 1)
 }
 
 // The trains of a crossing.
-fn total(c: Crossing) -> u32
-    ensures value { result ≡ total c }
+fn total<F: Form>(f: F) -> u32
+    ensures value { result ≡ total (F.crossing f) }
     ensures upper_bound { result ≤ 2040 }
 {
-    trains(c.calling[0], c.waiting[0])
-        + trains(c.calling[1], c.waiting[1])
-        + trains(c.calling[2], c.waiting[2])
-        + trains(c.calling[3], c.waiting[3])
+    let mut trains = 0;
+    for t in 0..4 {
+        trains += f.get(Field::Calling, t) + f.get(Field::Waiting, t);
+    }
+    trains as u32
 }
 
 // The trains that a tick writes off: all of the crossing where a release completes.
-pub fn written(s: Entry, c: Crossing) -> u32
-    ensures value { result ≡ bit (releases s c) (total c) }
+pub fn written<F: Form>(s: Entry, f: F) -> u32
+    ensures value { result ≡ bit (releases s (F.crossing f)) (total (F.crossing f)) }
     ensures upper_bound { result ≤ 2040 }
 {
-    if completes(s, c) {
-        return total(c);
-    }
-    0
+    if completes(s, f) { total(f) } else { 0 }
 }

@@ -12,7 +12,8 @@ const LIT: bool = true;
 
 const DARK: bool = false;
 
-// A rhythm, a beat, and whether a signal of that rhythm is lit in that beat.
+// A rhythm, a beat, and whether a signal of that rhythm is lit in that beat. No names: with them a row of the table would take five
+// lines.
 #[derive(Clone, Copy)]
 pub struct Row(pub Rhythm, pub u8, pub bool);
 
@@ -39,7 +40,7 @@ const ROWS: [Row; 12] = [
 fn beat_read(beat: u8) -> usize
     ensures { result ≡ beat_read beat }
 {
-    if beat < 3 { beat as usize } else { 3 }
+    usize::from(beat.min(3))
 }
 
 // The place of a row: four rows for each rhythm.
@@ -66,29 +67,27 @@ pub fn row_of(rhythm: Rhythm, beat: u8) -> Row
 pub fn of(flasher: bool, still: bool) -> Rhythm
     ensures { result ≡ by_position flasher still }
 {
-    if flasher {
-        if still {
-            return Rhythm::Slow;
-        }
-        return Rhythm::Fast;
+    match (flasher, still) {
+        (true, true) => Rhythm::Slow,
+        (true, false) => Rhythm::Fast,
+        (false, _) => Rhythm::Steady,
     }
-    Rhythm::Steady
 }
 
 // Lit in this beat: each signal of the crossing that is neither dark nor steady by itself.
 pub fn lit_now(beat: u8, flasher: bool, still: bool) -> bool
     ensures { result ≡ lit_at (by_position flasher still) beat }
 {
-    let row = row_of(of(flasher, still), beat);
-    row.2
+    let Row(_, _, lit) = row_of(of(flasher, still), beat);
+    lit
 }
 
 // Lit in this beat: a signal that is steady by itself (document 02, T-09).
 pub fn lit_steady(beat: u8) -> bool
     ensures { result ≡ lit_at Steady beat }
 {
-    let row = row_of(Rhythm::Steady, beat);
-    row.2
+    let Row(_, _, lit) = row_of(Rhythm::Steady, beat);
+    lit
 }
 
 // A signal by what it shows: dark is not lit; all else by its row, the steady one where it is steady by itself (fixed), otherwise that
@@ -96,8 +95,5 @@ pub fn lit_steady(beat: u8) -> bool
 pub fn lit(shown: u8, fixed: bool, steady: bool, on: bool) -> bool
     ensures { result ≡ (ltb 0 shown && cond fixed steady on) }
 {
-    if fixed {
-        return (0 < shown) & steady;
-    }
-    (0 < shown) & on
+    (0 < shown) & (if fixed { steady } else { on })
 }

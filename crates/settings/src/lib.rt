@@ -2,7 +2,6 @@
 #![tactic(auto)]
 
 ghost use Rattle.std.specs.Prelude.{◌&&◌, ◌≡◌, ◌^◌, leb, ltb};
-ghost use Rattle.machine.specs.Common.{refuse};
 ghost use Rattle.machine.specs.Range.{count_in, entry_in, entry_zero, gap_in, pre_in};
 
 use machine::{Entry, kinds};
@@ -27,7 +26,7 @@ fn pre_in(kind: u8, f: u16) -> bool
     if kinds::old_booms(kind) {
         f == 15
     } else {
-        (1 <= f) & (f <= 180)
+        (1..=180).contains(&f)
     }
 }
 
@@ -36,41 +35,35 @@ fn gap_in(kind: u8, g: u16) -> bool
     ensures { result ≡ gap_in kind g }
 {
     if kind::four_booms(kind) {
-        (1 <= g) & (g <= 90)
+        (1..=90).contains(&g)
     } else {
         g == 0
     }
 }
 
 // The settings of a crossing are in their ranges.
+#[tactic(auto, unfolding(machine::specs::Range::entry_in))]
 pub fn entry_in(s: Entry) -> bool
     ensures { result ≡ entry_in s }
 {
-    (1 <= s.kind)
-        & (s.kind <= 6)
-        & tracks_in(s.tracks, s.mask)
-        & pre_in(s.kind, s.pre)
-        & gap_in(s.kind, s.gap)
-        & (s.pause <= 540)
+    (1..=6).contains(&s.kind)
+        && tracks_in(s.tracks, s.mask)
+        && pre_in(s.kind, s.pre)
+        && gap_in(s.kind, s.gap)
+        && s.pause <= 540
 }
 
 // An entry past the last crossing: all zero.
+#[tactic(auto, unfolding(machine::specs::Range::entry_zero))]
 pub fn entry_zero(s: Entry) -> bool
     ensures { result ≡ entry_zero s }
 {
-    (s.kind == 0) & (s.tracks == 0) & (s.mask == 0) & (s.pre == 0) & (s.gap == 0) & (s.pause == 0)
+    s == Entry::default()
 }
 
 // n is 1 to 8.
 pub fn count_in(n: u8) -> bool
     ensures { result ≡ count_in n }
 {
-    (1 <= n) & (n <= 8)
-}
-
-// The number where the test holds, otherwise what the later tests give.
-pub fn refuse(test: bool, number: u8, rest: u8) -> u8
-    ensures { result ≡ refuse test number rest }
-{
-    if test { number } else { rest }
+    (1..=8).contains(&n)
 }

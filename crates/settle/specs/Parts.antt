@@ -1,5 +1,5 @@
 -- Settling in parts, in the machine's words: which phase is next, the crossing in it, its ticks out of normal.
-use Rattle.std.specs.Prelude.{ℕ}
+use Rattle.std.specs.Prelude.{ℕ, Option, Some, None}
 use Rattle.machine.specs.declared.Entry.{Entry}
 use Rattle.machine.specs.declared.Crossing.{Crossing}
 use Rattle.machine.specs.Plant.{boom, reason, booms_up, normal}
@@ -8,6 +8,11 @@ use Rattle.machine.specs.Settling.{phase_settled, timer_settled, left_settled, o
 -- the phase after settling
 abbrev pub next_phase : Entry → Crossing → ℕ
 next_phase s c = phase_settled s (reason c) (booms_up s.kind (boom c)) c.left c.phase
+
+-- the phase after one that enters a next phase, or stays
+abbrev pub moved : ℕ → Option ℕ → ℕ
+moved phase None = phase
+moved phase (Some next) = next
 
 -- the crossing in the next phase: its timer and its ticks left to motorists
 abbrev pub entered : Entry → ℕ → Crossing → Crossing

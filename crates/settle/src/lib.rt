@@ -1,107 +1,102 @@
-// Settling: once after an event of the crossing's own or a tick, by the phase on entry (document 01, "Events"). In parts,
-// next_phase, enter and count_out, which callers take in turn: together they are too long for the compiler to put into a tick.
+// Settling: once after an event of the crossing's own or a tick, by the phase on entry (document 01, "Events"), in every form of a
+// crossing. In parts, next_phase, enter and count_out: together they are too long for the compiler to put into a tick, which mostly
+// takes the first and the last.
 #![tactic(auto)]
 
-ghost use Rattle.std.specs.Prelude.{◌≡◌};
+ghost use Rattle.std.specs.Prelude.{◌≡◌, ◌≤◌};
 ghost use Rattle.machine.specs.Common.{bit};
-ghost use Rattle.machine.specs.Settling.{left_settled, out_settled, phase_settled, timer_settled};
-ghost use Rattle.settle.specs.Parts.{entered, next_phase, settled_out};
+ghost use Rattle.machine.specs.Plant.{reason};
+ghost use Rattle.machine.specs.Settling.{out_settled, phase_settled, settle};
+ghost use Rattle.settle.specs.Parts.{entered, moved, next_phase, settled_out};
 
+use form::{Field, Form, Number};
 use machine::{Crossing, Entry};
 
-// The phase after settling. While ticks are left to motorists no warning begins; with M above 0 raising ends in phase 0 (document
-// 02, T-06).
-fn phase_settled(s: Entry, stands: bool, up: bool, left: u16, phase: u8) -> u8
-    ensures { result ≡ phase_settled s stands up left phase }
+// A reason stands: some track is calling or a hold is on, or some track is unsure.
+#[tactic(auto, unfolding(machine::specs::Plant::reason))]
+pub fn stands<F: Form>(f: F) -> bool
+    ensures { result ≡ reason (F.crossing f) }
+{
+    (f.number(Number::Kiosk) == 1)
+        | (f.number(Number::Operator) == 1)
+        | f.any(Field::Calling)
+        | f.any(Field::Unsure)
+}
+
+// The phase that settling enters; none where the phase stays. While ticks are left to motorists no warning begins; with M above 0
+// raising ends in phase 0 (document 02, T-06).
+#[tactic(auto, unfolding(machine::specs::Settling::phase_settled))]
+fn phase_settled(s: Entry, stands: bool, up: bool, left: u64, phase: u64) -> Option<u8>
+    ensures { moved phase result ≡ phase_settled s stands up left phase }
 {
     match phase {
-        0 => { if stands & (left == 0) { 1 } else { 0 } }
-        1 => { if stands { 1 } else { 0 } }
-        4 => {
-            if up {
-                if stands & (s.pause == 0) { 1 } else { 0 }
-            } else {
-                4
-            }
-        }
-        _ => {
-            if stands {
-                return phase;
-            }
-            if kind::lights_only(s.kind) { 0 } else { 4 }
-        }
+        0 => (stands & (left == 0)).then_some(1),
+        1 => (!stands).then_some(0),
+        4 => up.then_some(u8::from(stands & (s.pause == 0))),
+        _ => (!stands).then_some(if kind::lights_only(s.kind) { 0 } else { 4 }),
     }
 }
 
-// The phase after a crossing settles.
-pub fn next_phase(s: Entry, c: Crossing) -> u8
-    ensures { result ≡ next_phase s c }
+// The phase that a crossing enters as it settles; none where its phase stays.
+pub fn next_phase<F: Form>(s: Entry, f: F) -> Option<u8>
+    ensures { moved (F.crossing f).phase result ≡ next_phase s (F.crossing f) }
 {
-    let booms = c.booms;
     phase_settled(
         s,
-        reason::stands(c),
-        booms::up(s.kind, booms),
-        c.left,
-        c.phase,
+        stands(f),
+        f.booms_up(s.kind),
+        f.number(Number::Left),
+        f.number(Number::Phase),
     )
 }
 
-// The timer after settling: F where a warning begins.
-fn timer_settled(pre: u16, phase: u8, next: u8, timer: u16) -> u16
-    ensures { result ≡ timer_settled pre phase next timer }
+// The crossing in the next phase. The timer is F where a warning begins. Ticks left to motorists are M where a closure ends, none where
+// a warning is given up (document 02, T-06). Where the phase stays, so do both.
+#[tactic(auto, unfolding(machine::specs::Settling::timer_settled, machine::specs::Settling::left_settled))]
+pub fn enter<F: Form>(s: Entry, next: u8, f: F) -> F
+    ensures { F.crossing result ≡ entered s next (F.crossing f) }
 {
+    let next = u64::from(next);
+    let phase = f.number(Number::Phase);
     if next == phase {
-        return timer;
+        return f;
     }
-    if next == 1 { pre } else { 0 }
-}
-
-// Ticks left to motorists after settling: M where a closure ends, none where a warning is given up (document 02, T-06).
-fn left_settled(pause: u16, phase: u8, next: u8, left: u16) -> u16
-    ensures { result ≡ left_settled pause phase next left }
-{
-    if next == phase {
-        return left;
-    }
-    if (next == 0) & (phase != 1) { pause } else { 0 }
-}
-
-// The crossing in the next phase.
-pub fn enter(s: Entry, next: u8, c: Crossing) -> Crossing
-    ensures { result ≡ entered s next c }
-{
-    let timer = timer_settled(s.pre, c.phase, next, c.timer);
-    let left = left_settled(s.pause, c.phase, next, c.left);
-    let mut d = c;
-    d.phase = next;
-    d.timer = timer;
-    d.left = left;
-    d
+    let timer = if next == 1 { s.pre } else { 0 };
+    let ends = (next == 0) & (phase != 1);
+    let left = if ends { s.pause } else { 0 };
+    f.set_number(Number::Phase, next)
+        .set_number(Number::Timer, u64::from(timer))
+        .set_number(Number::Left, u64::from(left))
 }
 
 // Ticks out of normal after settling.
-fn out_settled(normal: bool, tick: bool, out: u16) -> u16
-    ensures { result ≡ out_settled normal (bit tick 1) out }
+#[tactic(auto, unfolding(machine::specs::Settling::out_settled))]
+fn out_settled(normal: bool, tick: bool, out: u64) -> u64
+    ensures value { result ≡ out_settled normal (bit tick 1) out }
+    ensures upper_bound { result ≤ 1080 }
 {
     if normal {
         return 0;
     }
-    if out < Crossing::MOST {
-        if tick {
-            return out + 1;
-        }
-        return out;
-    }
-    Crossing::MOST
+    out.saturating_add(u64::from(tick))
+        .min(u64::from(Crossing::MOST))
 }
 
 // The ticks out of normal of a crossing whose phase has settled.
-pub fn count_out(s: Entry, tick: bool, c: Crossing) -> Crossing
-    ensures { result ≡ settled_out s (bit tick 1) c }
+pub fn count_out<F: Form>(s: Entry, tick: bool, f: F) -> F
+    ensures { F.crossing result ≡ settled_out s (bit tick 1) (F.crossing f) }
 {
-    let out = out_settled(position::is_normal(s, c), tick, c.out);
-    let mut d = c;
-    d.out = out;
-    d
+    let out = out_settled(position::is_normal(s, f), tick, f.number(Number::Out));
+    f.set_number(Number::Out, out)
+}
+
+// A crossing after it settles: the three parts in turn.
+#[tactic(auto, unfolding(machine::specs::Settling::settle, machine::specs::Settling::timer_settled, machine::specs::Settling::left_settled, machine::specs::Plant::normal))]
+pub fn settle<F: Form>(s: Entry, tick: bool, f: F) -> F
+    ensures { F.crossing result ≡ settle s (bit tick 1) (F.crossing f) }
+{
+    match next_phase(s, f) {
+        Some(next) => count_out(s, tick, enter(s, next, f)),
+        None => count_out(s, tick, f),
+    }
 }

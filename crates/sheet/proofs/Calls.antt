@@ -6,6 +6,8 @@ use Prim.Native.Nat.{ℕ, zero, suc, ◌*◌}
 use lib.Dec.{eqb}
 use lib.ListN.{length}
 use borrow.Author.Tests.{eq-eqb, ne_eqb}
+use Rattle.std.specs.Prelude.{Result, IsErrAnd}
+use Rattle.std.proofs.lemmas.Result.{err_from_is_err_and}
 use Rattle.machine.specs.declared.Plant.{Plant}
 use Rattle.machine.specs.declared.Event.{Event}
 use Rattle.machine.specs.Common.{refuse}
@@ -14,7 +16,12 @@ use Rattle.machine.specs.Events.{listed}
 use Rattle.machine.specs.Panel.{panel}
 use Rattle.machine.specs.Sheet.{sheet_size, sheet_event, sheet_number, run_number, counted, ran, run, run_panel}
 use Rattle.machine.proofs.Taken.{step_site}
+use Rattle.refusal.specs.declared.Refusal.{Refusal}
+use Rattle.refusal.specs.Numbers.{hut_number}
+use Rattle.refusal.proofs.Numbers.{never_0}
 use Rattle.reader.proofs.Numbers.{sheet_passes, sheet_refuses}
+use Rattle.sheet.specs.declared.Ran.{Ran}
+use Rattle.sheet.specs.Runs.{run_of}
 
 module _ (p : Plant) (s lent : List ℕ) where
   -- The number of a run ---------------------------------------------------------------------------------------------------------------
@@ -37,10 +44,12 @@ module _ (p : Plant) (s lent : List ℕ) where
   number_taken r q f = number_rest r q ∙ rw (eq-eqb _ _ f)
 
   -- What it returns -------------------------------------------------------------------------------------------------------------------
-  pub run_refused : (k : ℕ) → run_number p s lent ≡ k → (k ≡ 0 → ⊥)
-      → (record { number = k; plant = p; taken = 0; refused = 0; written = 0 } ≡ run p s lent) × (lent ≡ run_panel p s lent)
+  pub run_refused : (result : Result Ran Refusal) (r : Refusal) → IsErrAnd result (λ x. x ≡ r) → run_number p s lent ≡ hut_number r → (run_of p result ≡ run p s lent) × (lent ≡ run_panel p s lent)
   unfolding run run_panel
-  run_refused k q z = (rw (q, ne_eqb _ _ z), rw (q, ne_eqb _ _ z))
+  run_refused result r e q =
+      let o = err_from_is_err_and result e in
+      let z = ne_eqb _ _ (never_0 r) in
+      (rw (o.1, o.2, q, z), rw (q, z))
 
   pub run_taken : run_number p s lent ≡ 0 → (ran p (sheet_event s) (sheet_size s) ≡ run p s lent) × (panel (ran p (sheet_event s) (sheet_size s)).plant ≡ run_panel p s lent)
   unfolding run run_panel

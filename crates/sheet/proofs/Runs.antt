@@ -5,6 +5,7 @@ use Prim.Native.Nat.{ℕ, suc, ◌+◌, ◌*◌, ◌%◌, ◌≤◌, ◌<◌}
 use native.Mathlib.Nat.{add-zero, mod-eq_of_lt}
 use borrow.Author.Tests.{ne_eqb}
 use native.Mathlib.Omega.{arith}
+use native.Mathlib.Numerals.{add-one}
 use lib.Dec.{eqb}
 use lib.ListN.{length, get_or, set, length-set}
 use Rattle.machine.specs.declared.Plant.{Plant}
@@ -23,10 +24,6 @@ use Rattle.machine.proofs.Stays.{stays_in_range}
 use Rattle.plant.proofs.Laws.{unread, crossing_read}
 use Rattle.train.specs.Room.{Room}
 use Rattle.plant_tick.specs.Ticks.{ticked_plant}
-use Rattle.verdict.specs.declared.Verdict.{Verdict}
-use Rattle.verdict.specs.declared.Verdict.TheVariants.{Take, Refuse}
-use Rattle.verdict.specs.Cases.{verdict}
-use Rattle.verdict.proofs.Cases.{taken_by, refused_by}
 use Rattle.event.proofs.Steps.{judged, own_below, own_room, tick_step, own_step}
 
 -- after k events f of p: the plant q and the three counts are the machine's, in range and within their bounds
@@ -63,45 +60,47 @@ module _ (p : Plant) (f : ℕ → Event) where
       one true c = omega arith
       one false c = omega arith
 
-  -- one event more, as the loop takes it: v is the verdict on the event
-  module _ (k : ℕ) (q : Plant) (t r w : ℕ) (h : Played p f k q t r w) (v : Verdict)
-      (j : v ≡ verdict (refusal q.site.n (get_or q.site.entries ((f k).crossing % 8) no_entry) (get_or q.crossings ((f k).crossing % 8) unread) true (f k)) (f k)) where
-    abbrev e : Event
-    e = f k
-
+  -- one event more, as the loop takes it: e is event k, j its crossing's place in the arrays, and v the number of the verdict on it
+  module _ (k : ℕ) (q : Plant) (t r w : ℕ) (h : Played p f k q t r w) (e : Event) (read : e ≡ f k) (j : ℕ) (place : j ≡ e.crossing % 8) (v : ℕ)
+      (told : v ≡ refusal q.site.n (get_or q.site.entries j no_entry) (get_or q.crossings j unread) true e) where
     abbrev x : Command
     x = listed e
 
-    by_number : v ≡ verdict (number q x) e
+    by_number : v ≡ number q x
     unfolding is_known entitled
-    by_number = judged q x v true h.eight h.range refl refl j
+    by_number = judged q x v true h.eight h.range refl refl (rw place at told)
 
-    pub taken : (y : Event) → v ≡ Take y → (number q x ≡ 0) × (e ≡ y)
-    taken y g = taken_by (number q x) e y (sym by_number ∙ g)
+    next : (a : Answer) → step q x ≡ a → length a.plant.crossings ≡ 8 → a.written ≤ 16320
+        → Played p f (k + 1) a.plant (t + bit (eqb a.number 0) 1) (r + bit (not (eqb a.number 0)) 1) (w + a.written)
+    next a s = rw (add-one k) (played_next k q t r w h a (rw read at s))
 
-    pub played_refused : (m : ℕ) → v ≡ Refuse m → Played p f (suc k) q t (r + 1) w
-    played_refused m g =
-        let z = refused_by (number q x) m e (sym by_number ∙ g) in
-        simp (ne_eqb _ _ z.1, add-zero) at (played_next k q t r w h _ (refused_answer q x z.1) h.eight (omega arith))
+    pub played_refused : (v ≡ 0 → ⊥) → Played p f (k + 1) q t (r + 1) w
+    played_refused g =
+        let z : number q x ≡ 0 → ⊥ = λ o. g (by_number ∙ o) in
+        simp (ne_eqb _ _ z, add-zero) at (next _ (refused_answer q x z) h.eight (omega arith))
 
-    pub played_tick : number q x ≡ 0 → e.code ≡ 0 → (ticked_plant q).written ≤ 16320
-        → Played p f (suc k) (record { site = q.site; beat = (ticked_plant q).beat; crossings = (ticked_plant q).crossings }) (t + 1) r (w + (ticked_plant q).written)
-    played_tick n z b = simp add-zero at (played_next k q t r w h _ (tick_step q x n z) refl b)
+    module _ (taken : v ≡ 0) where
+      pub accepted : number q x ≡ 0
+      accepted = sym by_number ∙ taken
 
-    -- an event of one crossing is at a place of the array, and reads there
-    pub own_place : number q x ≡ 0 → is 0 e ≡ false → (e.crossing % 8 ≡ e.crossing) × (get_or q.crossings (e.crossing % 8) unread ≡ crossing q e.crossing)
-    own_place n z =
-        let b : e.crossing < 8 = own_below q x n z in
-        let m : e.crossing % 8 ≡ e.crossing = mod-eq_of_lt b in
-        let k = h.eight in
-        let l : e.crossing < length q.crossings = omega arith in
-        (m, rw m (crossing_read q.crossings e.crossing l))
+      pub played_tick : e.code ≡ 0 → (ticked_plant q).written ≤ 16320
+          → Played p f (k + 1) (record { site = q.site; beat = (ticked_plant q).beat; crossings = (ticked_plant q).crossings }) (t + 1) r (w + (ticked_plant q).written)
+      played_tick z b = simp add-zero at (next _ (tick_step q x accepted z) refl b)
 
-    pub own_room_at : number q x ≡ 0 → is 0 e ≡ false → Room (get_or q.crossings (e.crossing % 8) unread) e
-    own_room_at n z = rw (own_place n z).1 (own_room q x n z)
+      -- an event of one crossing is at a place of the array, and reads there
+      module _ (z : is 0 e ≡ false) where
+        own_place : (j ≡ e.crossing) × (get_or q.crossings j unread ≡ crossing q e.crossing)
+        own_place =
+            let b : e.crossing < 8 = own_below q x accepted z in
+            let m : j ≡ e.crossing = place ∙ mod-eq_of_lt b in
+            let k = h.eight in
+            let l : e.crossing < length q.crossings = omega arith in
+            (m, rw m (crossing_read q.crossings e.crossing l))
 
-    pub played_own : number q x ≡ 0 → is 0 e ≡ false
-        → Played p f (suc k) (record { site = q.site; beat = q.beat; crossings = set q.crossings e.crossing (settle (entry q e.crossing) 0 (act (entry q e.crossing) (crossing q e.crossing) e)) }) (t + 1) r (w + bit (sweeps (crossing q e.crossing) e) 1)
-    played_own n z =
-        let one = one_at_most (sweeps (crossing q e.crossing) e) in
-        simp add-zero at (played_next k q t r w h _ (own_step q x h.eight n z) (length-set q.crossings e.crossing (settle (entry q e.crossing) 0 (act (entry q e.crossing) (crossing q e.crossing) e)) ∙ h.eight) (omega arith))
+        pub own_room_at : Room (get_or q.crossings j unread) e
+        own_room_at = rw own_place.1 (own_room q x accepted z)
+
+        pub played_own : Played p f (k + 1) (record { site = q.site; beat = q.beat; crossings = set q.crossings j (settle (get_or q.site.entries j no_entry) 0 (act (get_or q.site.entries j no_entry) (get_or q.crossings j unread) e)) }) (t + 1) r (w + bit (sweeps (get_or q.crossings j unread) e) 1)
+        played_own =
+            let one = one_at_most (sweeps (crossing q e.crossing) e) in
+            rw (own_place.1, own_place.0) (simp add-zero at (next _ (own_step q x h.eight accepted z) (length-set q.crossings e.crossing (settle (entry q e.crossing) 0 (act (entry q e.crossing) (crossing q e.crossing) e)) ∙ h.eight) (omega arith)))

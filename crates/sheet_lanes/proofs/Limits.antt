@@ -10,7 +10,7 @@ use Rattle.machine.specs.declared.Crossing.{Crossing}
 use Rattle.machine.specs.declared.Plant.{Plant}
 use Rattle.machine.specs.Common.{bit}
 use Rattle.machine.specs.Plant.{boom, lamp_flag, entry, crossing, boom_count, lamp_count, four_booms}
-use Rattle.machine.specs.Range.{in_range, entry_zero, report_limit, left_limit}
+use Rattle.machine.specs.Range.{in_range, report_limit, left_limit}
 use Rattle.machine.proofs.Tools.{by_test, by_cond, and_both}
 use Rattle.machine.proofs.Entries.{EntryIn}
 use Rattle.machine.proofs.Ranges.{CrossingIn, PhaseIn, opened, warning, right, closed, raising, NoCrossing, plant_reads, entry_of}
@@ -104,22 +104,3 @@ module _ (p : Plant) (r : in_range p ≡ true) (i : ℕ) (l : i < 8) where
       by_test (ltb i p.site.n)
       (λ q. (h.used i (ltb-true _ _ q)).out)
       (λ q. let z = (h.past i l (ltb-false _ _ q)).out in omega arith)
-
-  zero_tracks : entry_zero (entry p i) ≡ true → (entry p i).tracks ≤ 4
-  unfolding entry_zero
-  zero_tracks q =
-      let s = entry p i in
-      let a = and_both _ (eqb s.pause 0) q in
-      let b = and_both _ (eqb s.gap 0) a.0 in
-      let c = and_both _ (eqb s.pre 0) b.0 in
-      let d = and_both _ (eqb s.mask 0) c.0 in
-      let e = and_both (eqb s.kind 0) (eqb s.tracks 0) d.0 in
-      let z : s.tracks ≡ 0 = eqb-true _ _ e.1 in
-      omega arith
-
-  pub tracks_of : (entry p i).tracks ≤ 4
-  tracks_of =
-      let h = plant_reads p r in
-      by_test (ltb i p.site.n)
-      (λ q. (entry_of h i (ltb-true _ _ q)).tracks)
-      (λ q. zero_tracks (h.entry_past i l (ltb-false _ _ q)))

@@ -25,8 +25,9 @@ fn signal(s: Entry, c: Crossing, byte: u8, closed: bool) -> u8
 {
     if kind::old_sheet(s.kind) {
         let lights = kind::lights_only(s.kind);
-        let closing = ((c.phase == 1) | (c.phase == 3)) & (byte == 2);
-        let white = (c.lamps[3] == 1) & bits::either(lights, closing, closed);
+        let closing = matches!(c.phase, 1 | 3) & (byte == 2);
+        let free = if lights { closing } else { closed };
+        let white = (c.lamps[3] == 1) & free;
         return aspect::control(white, (c.lamps[2] == 1) & !lights);
     }
     aspect::signal(closed, c.lamps[3] == 1, c.lamps[2] == 1)
@@ -40,8 +41,8 @@ pub fn all(s: Entry, c: Crossing, still: bool, closed: bool) -> Shown
 {
     let old = kind::old_sheet(s.kind);
     let booms = c.booms;
-    let off = bits::either(old, booms::up(s.kind, booms), still);
-    let lamps = bits::bit(!off & !kind::lights_only(s.kind));
+    let off = if old { booms::up(s.kind, booms) } else { still };
+    let lamps = u8::from(!off & !kind::lights_only(s.kind));
     let road = aspect::road(still, (c.lamps[0] == 1) & !old, c.lamps[1] == 1);
     let signal = signal(s, c, road, closed);
     let distant = aspect::distant(old, signal);

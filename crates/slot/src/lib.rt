@@ -7,7 +7,7 @@ ghost use Rattle.machine.specs.Plant.{total};
 ghost use Rattle.machine.specs.Effects.{releases, tick};
 ghost use Rattle.machine.specs.Settling.{settle};
 ghost use Rattle.lane.specs.Lanes.{crossing_of, Small};
-ghost use Rattle.lane_effect.specs.Ready.{Ready};
+ghost use Rattle.slot.specs.Ready.{Ready};
 ghost use Rattle.slot.specs.Slots.{first_slot, seen, current, laid, acted};
 
 use lane::Lane;
@@ -45,7 +45,7 @@ pub fn current(s: Entry, now: u64, z: Packed) -> Lane
     ensures { crossing_of result ≡ current s now (seen z) }
 {
     let l = z.lane;
-    quiet::advance(s, quiet::lowered(now, z.since), l)
+    quiet::advance(s, now.saturating_sub(z.since), l)
 }
 
 // A settled lane laid into a slot at the tick `now`. Inside this crate alone.
@@ -69,12 +69,12 @@ pub fn tick(s: Entry, now: u64, z: Packed) -> Ticked
     ensures written_bound { result.written ≤ 2040 }
 {
     let l = current(s, now, z);
-    let t = lane_tick::tick(s, l);
-    let d = t.lane;
+    let t = tick::tick(s, l);
+    let d = t.crossing;
     let slot = lay(s, now + 1, d);
     Ticked {
         slot,
-        written: t.written,
+        written: u64::from(t.written),
     }
 }
 
@@ -84,6 +84,6 @@ pub fn apply(s: Entry, now: u64, z: Packed, e: Event) -> Packed
     ensures { seen result ≡ acted s now (seen z) e }
 {
     let l = current(s, now, z);
-    let d = lane_settle::settle(s, false, lane_effect::act(s, l, e));
+    let d = effect::apply(s, l, e);
     lay(s, now, d)
 }

@@ -32,17 +32,6 @@ pub fn begin(crossings: [Crossing; 8]) -> [Packed; 8]
     ]
 }
 
-// The smaller of two.
-pub fn lesser(a: u64, b: u64) -> u64
-    ensures upper_bound { result ≤ a }
-    ensures upper_bound_2 { result ≤ b }
-{
-    if a < b {
-        return a;
-    }
-    b
-}
-
 // A tick that some slot may be due at. For other crates alone.
 pub fn sweep(site: Site, now: u64, slots: [Packed; 8]) -> Round
     requires { now ≤ 4095 }
@@ -51,21 +40,16 @@ pub fn sweep(site: Site, now: u64, slots: [Packed; 8]) -> Round
     let mut next = slots;
     let mut least: u64 = 16384;
     let mut written: u64 = 0;
-    let mut i: usize = 0;
-    while i < 8 {
+    for i in 0..8 {
         let z = next[i];
         if now < z.due {
-            least = lesser(least, z.due);
-            i += 1;
+            least = least.min(z.due);
             continue;
         }
-        let s = site.entries[i];
-        let w = slot::tick(s, now, z);
-        let d = w.slot;
-        next[i] = d;
-        least = lesser(least, d.due);
+        let w = slot::tick(site.entries[i], now, z);
+        next[i] = w.slot;
+        least = least.min(w.slot.due);
         written += w.written;
-        i += 1;
     }
     Round {
         slots: next,
@@ -80,13 +64,8 @@ pub fn finish(site: Site, now: u64, slots: [Packed; 8], crossings: [Crossing; 8]
     ensures { result ≡ shown site now slots }
 {
     let mut next = crossings;
-    let mut i: usize = 0;
-    while i < 8 {
-        let s = site.entries[i];
-        let z = slots[i];
-        let d = lane::unpack(slot::current(s, now, z));
-        next[i] = d;
-        i += 1;
+    for i in 0..8 {
+        next[i] = lane::unpack(slot::current(site.entries[i], now, slots[i]));
     }
     next
 }

@@ -6,11 +6,6 @@ use Prim.Native.Nat.{ℕ, ◌+◌, ◌-◌, pred}
 use lib.Dec.{eqb}
 use lib.ListN.{length, get_or, set}
 use lib.Seq.{set-get_or}
-use mir.Val.{Val}
-use denote.Struct.Declared.{row}
-use denote.Laws.{Is}
-use borrow.Author.Rules.{rules}
-use Rattle.machine.specs.contracts.Crossing.{the_type}
 use Rattle.machine.specs.declared.Entry.{Entry}
 use Rattle.machine.specs.declared.Crossing.{Crossing}
 use Rattle.machine.specs.declared.Event.{Event}
@@ -19,6 +14,7 @@ use Rattle.machine.specs.Plant.{release_ticks, calling, waiting}
 use Rattle.machine.specs.Events.{is}
 use Rattle.machine.specs.Effects.{calls, sweeps, calling_after, waiting_after, unsure_after, cancels, act}
 use Rattle.machine.proofs.Tools.{tab_same, tab_getD, tab_set}
+use Rattle.form.specs.Forms.{Sized}
 
 -- A table that changes at one place ------------------------------------------------------------------------------------------------
 module _ {A : Type 0} (n : ℕ) (l : List A) (d : A) (i : ℕ) (len : length l ≡ n) where
@@ -62,28 +58,7 @@ module _ {A : Type 0} (n : ℕ) (l : List A) (d : A) (i : ℕ) (len : length l �
 set_kept : {A : Type 0} (l : List A) (i : ℕ) (d : A) {v : A} → get_or l i d ≡ v → set l i v ≡ l
 set_kept l i d h = rw (← h) (set-get_or l i d)
 
--- A crossing of the code -----------------------------------------------------------------------------------------------------------
--- its arrays have four and seven places
-pub record Sized (c : Crossing) : Type 0 where
-  pub calling : length c.calling ≡ 4
-  pub waiting : length c.waiting ≡ 4
-  pub route : length c.route ≡ 4
-  pub occupied : length c.occupied ≡ 4
-  pub unsure : length c.unsure ≡ 4
-  pub booms : length c.booms ≡ 4
-  pub lamps : length c.lamps ≡ 7
-
-sized : (c : Crossing) (vs : List Val) → Is (row the_type) c vs → Sized c
-sized c vs p = record {
-  calling = search (p.1.1.0, rules);
-  waiting = search (p.1.1.1.0, rules);
-  route = search (p.1.1.1.1.0, rules);
-  occupied = search (p.1.1.1.1.1.0, rules);
-  unsure = search (p.1.1.1.1.1.1.0, rules);
-  booms = search (p.1.1.1.1.1.1.1.0, rules);
-  lamps = search (p.1.1.1.1.1.1.1.1.0, rules);
-}
-
+-- A crossing of its size ------------------------------------------------------------------------------------------------------------
 module _ (s : Entry) (c : Crossing) (e : Event) where
   abbrev at : ℕ
   at = e.place
@@ -132,9 +107,6 @@ module _ (s : Entry) (c : Crossing) (e : Event) where
     stored 7 c.lamps 0 at z.lamps (is 9 e) (λ t. e.value),
   )
 
-  pub act_stores : (vs : List Val) → Is (row the_type) c vs → act s c e ≡ stores
-  act_stores vs p = act_sized (sized c vs p)
-
   -- a passage where no train is calling
   abbrev waited : Crossing
   waited = record {
@@ -158,9 +130,6 @@ module _ (s : Entry) (c : Crossing) (e : Event) where
   unfolding cancels
   passage_sized z k none = simp (act_sized z, k, none, set_kept c.calling at 0 none)
 
-  pub passage_waited : (vs : List Val) → Is (row the_type) c vs → e.code ≡ 2 → calling c at ≡ 0 → act s c e ≡ waited
-  passage_waited vs p = passage_sized (sized c vs p)
-
   -- a route set
   abbrev routed : Crossing
   routed = record {
@@ -183,6 +152,3 @@ module _ (s : Entry) (c : Crossing) (e : Event) where
   pub route_sized : Sized c → e.code ≡ 5 → on ≡ true → act s c e ≡ routed
   unfolding cancels
   route_sized z k v = simp (act_sized z, k, v)
-
-  pub route_set : (vs : List Val) → Is (row the_type) c vs → e.code ≡ 5 → on ≡ true → act s c e ≡ routed
-  route_set vs p = route_sized (sized c vs p)

@@ -1,6 +1,6 @@
 -- A crossing in range has room for an event that is taken there.
 use mathlib.Core.Path.{◌≡◌}
-use mathlib.Core.Bool.{false, cond}
+use mathlib.Core.Bool.{Bool, false, cond}
 use Prim.Native.Nat.{ℕ, ◌≤◌, ◌<◌}
 use native.Mathlib.Omega.{arith}
 use lib.Dec.{eqb, lit≤}
@@ -14,11 +14,8 @@ use Rattle.machine.proofs.Tools.{by_test, by_cond}
 use Rattle.machine.proofs.Entries.{EntryIn, at_most_four, at_most_seven}
 use Rattle.machine.proofs.Ranges.{CrossingIn}
 use Rattle.machine.proofs.Taken.{Accepted}
-use Rattle.train.specs.Room.{Room}
-
--- the place of an event of code k, no lamp report
-pub on_four : {c : Crossing} {e : Event} (k : ℕ) → eqb k 9 ≡ false → (e.code ≡ k) × Room c e → e.place < 4
-on_four k q h = rw (h.0, q) at h.1.place
+use Rattle.form.specs.Plain.{byte_limit}
+use Rattle.train.specs.Room.{Room, Takes}
 
 -- a crossing has at most four tracks and booms, and seven lamps
 limit_fits : (s : Entry) (code : ℕ) → s.tracks ≤ 4 → place_limit s code ≤ cond (eqb code 9) 7 4
@@ -43,3 +40,10 @@ taken_room n s c e g h a =
           (λ _. lit≤ tt);
       least = by_cond (λ x. x ≤ trains c e.place) (is 2 e) (λ i. let r = a.there i in omega arith) (λ _. omega arith);
     }
+
+-- the places of the plant's crossing are bytes, as the value is
+pub bytes_take : {c : Crossing} {e : Event} → Room c e → e.value < 256 → Takes byte_limit c e
+bytes_take {c} {e} r l = record { room = r; value = byte (eqb e.code 5) (byte (eqb e.code 6) (byte (eqb e.code 8) (byte (eqb e.code 9) l))) }
+  where
+    byte : (b : Bool) {m : ℕ} → e.value < m → e.value < cond b 256 m
+    byte b {m} k = by_cond (λ n. e.value < n) b (λ _. l) (λ _. k)

@@ -1,6 +1,7 @@
-use borrow.Author.Tests.{le-ltb, lt-ltb}
+use borrow.Author.Tests.{lt-ltb}
+use native.Mathlib.Omega.{arith}
+use Rattle.std.proofs.lemmas.Grind.{common_steps}
 use Rattle.machine.specs.BoardTable.{printed}
-use borrow.Author.Rules.{rules}
 use Rattle.board_table.proofs.Heads.{head}
 use Rattle.board_table.proofs.printed.Goals as goal
 
@@ -9,10 +10,6 @@ unfolding printed
 returns-then-column-lt7 c =
     simp (lt-ltb _ _ c.if-column-lt7.true, lt-ltb _ _ c.if-row-lt5.true, head c.args.column)
 
-pub returns-else-column-lt7 : goal.returns-else-column-lt7
+pub returns : goal.returns
 unfolding printed
-returns-else-column-lt7 c = simp (le-ltb _ _ c.if-column-lt7.false, lt-ltb _ _ c.if-row-lt5.true)
-
-pub returns-else-row-lt5 : goal.returns-else-row-lt5
-unfolding printed
-returns-else-row-lt5 c = simp (le-ltb _ _ c.if-row-lt5.false)
+returns c = grind (arith, common_steps)

@@ -1,7 +1,6 @@
-use mathlib.Core.Path.{refl, ◌∙◌}
+use mathlib.Core.Path.{refl}
 use Rattle.machine.specs.SiteBook.{first_part, setting}
 use Rattle.machine.proofs.Tools.{next_row}
-use borrow.Author.Rules.{rules}
 use Rattle.book_write.proofs.put_firsts.Goals as goal
 
 pub loop-i-preserved : goal.loop-i-preserved
@@ -11,4 +10,4 @@ loop-i-preserved c =
     let s = a.s in
     let l = c.loop-i in
     let r = c.put_first in
-    (search rules, (next_row 3 (λ j. first_part (setting s j)) (λ j. refl) a.out.now 1 l.i l.invariant.1.0 r.ensures, r.auto.out ∙ l.invariant.1.1))
+    next_row 3 (λ j. first_part (setting s j)) (λ j. refl) a.out.now 1 l.i l.invariant r.ensures

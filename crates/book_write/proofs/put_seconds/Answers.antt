@@ -1,8 +1,6 @@
-use mathlib.Core.Path.{refl, ◌∙◌}
-use Prim.Native.Nat.{◌+◌, ◌*◌}
+use Rattle.std.proofs.Common.{refl, ◌+◌, ◌*◌}
 use Rattle.machine.specs.SiteBook.{second_part, setting}
 use Rattle.machine.proofs.Tools.{next_row}
-use borrow.Author.Rules.{rules}
 use Rattle.book_write.proofs.put_seconds.Goals as goal
 
 pub loop-i-preserved : goal.loop-i-preserved
@@ -12,4 +10,4 @@ loop-i-preserved c =
     let s = a.s in
     let l = c.loop-i in
     let r = c.put_second in
-    (search rules, (next_row 6 (λ j. second_part (setting s j)) (λ j. refl) a.out.now (1 + 3 * s.n) l.i l.invariant.1.0 r.ensures, r.auto.out ∙ l.invariant.1.1))
+    next_row 6 (λ j. second_part (setting s j)) (λ j. refl) a.out.now (1 + 3 * s.n) l.i l.invariant (rw c.from-n.ensures at r.ensures)

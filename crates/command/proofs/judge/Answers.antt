@@ -1,32 +1,21 @@
 -- without the right, by the verdict with it: 5 to 8 stand, and all else is 17
-use mathlib.Core.Path.{◌≡◌, sym, ◌∙◌}
-use mathlib.Core.Bool.{false}
-use native.Mathlib.Omega.{arith}
-use Rattle.machine.specs.Rights.{may_send}
-use Rattle.verdict.proofs.Cases.{says}
-use Rattle.command.proofs.Cases.{sent_taken, sent_stands, sent_over}
+use mathlib.Core.Path.{sym, ◌∙◌}
+use Rattle.command.proofs.Cases.{by_right}
 use Rattle.command.proofs.judge.Goals as goal
 
-pub returns-in_default : goal.returns-in_default
-returns-in_default c =
+pub returns-in_default-clause-number : goal.returns-in_default-clause-number
+returns-in_default-clause-number c =
     let a = c.args in
-    let may : may_send a.sender a.e.code a.e.value ≡ false = sym c.may_send.ensures ∙ c.if-may_send.false in
-    let r = sent_taken a.n a.s a.c a.e _ c.judge-v.ensures.value _ c.in_default.is in
-    let t = says _ _ (rw (may, r)) in
-    record { value = t.0; result_value = t.1 }
+    by_right a.n a.s a.c a.e _ _ c.in_default.ensures.number (sym c.may_send.ensures ∙ c.if-may_send.false)
 
-pub returns-then-number-le-UNKNOWN_VALUE : goal.returns-then-number-le-UNKNOWN_VALUE
-returns-then-number-le-UNKNOWN_VALUE c =
+pub returns-then-before_right-clause-number : goal.returns-then-before_right-clause-number
+returns-then-before_right-clause-number c =
     let a = c.args in
-    let may : may_send a.sender a.e.code a.e.value ≡ false = sym c.may_send.ensures ∙ c.if-may_send.false in
-    let r = sent_stands a.n a.s a.c a.e _ c.judge-v.ensures.value _ c.in-Refuse.is (omega (arith, c.if-number-le-UNKNOWN_VALUE.true)) in
-    let t = says _ _ (rw may r) in
-    record { value = t.0; result_value = t.1 }
+    let r = by_right a.n a.s a.c a.e _ _ c.in-Err.ensures.number (sym c.may_send.ensures ∙ c.if-may_send.false) in
+    rw (sym c.before_right.ensures ∙ c.if-before_right.true) at r
 
-pub returns : goal.returns
-returns c =
+pub returns-clause-number : goal.returns-clause-number
+returns-clause-number c =
     let a = c.args in
-    let may : may_send a.sender a.e.code a.e.value ≡ false = sym c.may_send.ensures ∙ c.if-may_send.false in
-    let r = sent_over a.n a.s a.c a.e _ c.judge-v.ensures.value _ c.in-Refuse.is (omega (arith, c.if-number-le-UNKNOWN_VALUE.false)) in
-    let t = says _ _ (rw (may, r)) in
-    record { value = t.0; result_value = t.1 }
+    let r = by_right a.n a.s a.c a.e _ _ c.in-Err.ensures.number (sym c.may_send.ensures ∙ c.if-may_send.false) in
+    rw (sym c.before_right.ensures ∙ c.if-before_right.false) at r

@@ -1,7 +1,9 @@
-use Rattle.train.proofs.Stores.{act_stores}
 use Rattle.machine.specs.Effects.{cancels}
+use Rattle.train.proofs.Stores.{act_sized}
 use Rattle.effect.proofs.time_release.Goals as goal
 
 pub returns : goal.returns
 unfolding cancels
-returns c = simp (act_stores c.args.s c.args.c c.args.e _ c.well_formed.1.0, c.requires)
+returns g c =
+    let x = g.F.Form.crossing c.args.f in
+    simp (c.set_number.ensures, c.from.ensures, act_sized c.args.s x c.args.e (g.met.F.Form.sized c.args.f _ c.well_formed.1.0), c.requires)

@@ -1,48 +1,30 @@
+use mathlib.Core.Path.{◌≡◌, refl, sym, ◌∙◌}
+use Rattle.machine.specs.Events.{sent, is_known, entitled, number}
+use Rattle.machine.proofs.Taken.{as_listed}
 use Rattle.plant.proofs.Laws.{eight_crossings}
-use Rattle.event.proofs.Steps.{judged}
-use Rattle.verdict.proofs.Cases.{taken_by, refused_by}
-use Rattle.verdict.specs.Cases.{verdict}
-use Rattle.machine.proofs.Taken.{refused_answer, as_listed}
-use Rattle.machine.specs.Events.{listed, sent, is_known, entitled, number}
-use mathlib.Core.Path.{◌≡◌, refl, sym, ◌∙◌, ap, subst}
-use Rattle.machine.specs.Step.{step}
+use Rattle.event.proofs.Steps.{judged, refused_by}
 use Rattle.event.proofs.answer.Goals as goal
 
 pub take-requires : goal.take-requires
 unfolding is_known entitled
 take-requires c =
-    let k = c in
-    let a = k in
-    let p = a.args.p in
-    let e = a.args.e in
-    let x = sent a.args.sender e in
-    let len = eight_crossings p _ a.well_formed.0 in
-    let j : k.judge-v.result ≡ verdict (number p x) e = judged p x _ _ len a.requires.0 a.requires.1 refl k.judge-v.ensures.value in
-    let h = taken_by (number p x) e c.in-Take.t (sym j ∙ c.in-Take.is) in
-    subst (λ y. number p (listed y) ≡ 0) h.1 (as_listed p x h.0).0
+    let a = c.args in
+    let x = sent a.sender a.e in
+    let n : 0 ≡ number a.p x = judged a.p x _ _ (eight_crossings a.p _ c.well_formed.0) c.requires.0 c.requires.1 refl (rw c.from-k.ensures at c.in_ok-t.ensures.number) in
+    rw c.in_ok-t.ensures.event (as_listed a.p x (sym n)).0
 
-pub returns-in-Take : goal.returns-in-Take
+pub returns : goal.returns
 unfolding is_known entitled
-returns-in-Take c =
-    let k = c in
-    let a = k in
-    let p = a.args.p in
-    let e = a.args.e in
-    let x = sent a.args.sender e in
-    let len = eight_crossings p _ a.well_formed.0 in
-    let j : k.judge-v.result ≡ verdict (number p x) e = judged p x _ _ len a.requires.0 a.requires.1 refl k.judge-v.ensures.value in
-    let h = taken_by (number p x) e c.in-Take.t (sym j ∙ c.in-Take.is) in
-    c.take.ensures ∙ sym ((as_listed p x h.0).1 ∙ ap (λ y. step p (listed y)) h.1)
+returns c =
+    let a = c.args in
+    let x = sent a.sender a.e in
+    let n : 0 ≡ number a.p x = judged a.p x _ _ (eight_crossings a.p _ c.well_formed.0) c.requires.0 c.requires.1 refl (rw c.from-k.ensures at c.in_ok-t.ensures.number) in
+    c.take.ensures ∙ rw c.in_ok-t.ensures.event (sym (as_listed a.p x (sym n)).1)
 
-pub returns-in-Refuse : goal.returns-in-Refuse
+pub returns-in_err-t : goal.returns-in_err-t
 unfolding is_known entitled
-returns-in-Refuse c =
-    let k = c in
-    let a = k in
-    let p = a.args.p in
-    let e = a.args.e in
-    let x = sent a.args.sender e in
-    let len = eight_crossings p _ a.well_formed.0 in
-    let j : k.judge-v.result ≡ verdict (number p x) e = judged p x _ _ len a.requires.0 a.requires.1 refl k.judge-v.ensures.value in
-    let h = refused_by (number p x) c.in-Refuse.number e (sym j ∙ c.in-Refuse.is) in
-    c.refused.ensures ∙ sym (rw h.0 at (refused_answer p x h.1))
+returns-in_err-t c =
+    let a = c.args in
+    let x = sent a.sender a.e in
+    let n = judged a.p x _ _ (eight_crossings a.p _ c.well_formed.0) c.requires.0 c.requires.1 refl (rw c.from-k.ensures at c.in_err-t.ensures.number) in
+    refused_by a.p x _ _ c.from_residual.ensures.1 n

@@ -1,32 +1,26 @@
 use mathlib.Core.Path.{◌≡◌, sym, ◌∙◌}
-use mathlib.Core.Bool.{true, false}
-use native.Mathlib.Omega.{arith}
+use mathlib.Core.Bool.{false}
+use borrow.Author.Tests.{not-true, not-false}
 use Rattle.machine.specs.Range.{in_range}
 use Rattle.machine.specs.Rights.{known_sender}
-use Rattle.machine.specs.Events.{sent, is_known, number}
-use Rattle.machine.proofs.Taken.{refused_answer}
-use Rattle.event.proofs.Steps.{number_spoilt, number_unknown}
+use Rattle.machine.specs.Events.{sent, is_known}
+use Rattle.event.proofs.Steps.{number_spoilt, number_unknown, refused_by}
 use Rattle.event.proofs.handle.Goals as goal
 
-pub returns-then-in_range : goal.returns-then-in_range
-unfolding is_known
-returns-then-in_range c =
-    let k = c in
-    let a = k in
-    let p = a.args.p in
-    let x = sent a.args.sender a.args.e in
-    let q : in_range p ≡ true = sym k.in_range.ensures ∙ k.if-in_range.true in
-    let u : known_sender a.args.sender ≡ false = sym k.known.ensures ∙ c.if-known.false in
-    let s = number_unknown p x q u in
-    let n : number p x ≡ 0 → ⊥ = (λ z. omega arith) in
-    c.refused.ensures ∙ sym (simp s at (refused_answer p x n))
+pub returns-in_err-refuse_if : goal.returns-in_err-refuse_if
+returns-in_err-refuse_if c =
+    let a = c.args in
+    let x = sent a.sender a.e in
+    let g = c.in_err-refuse_if.ensures.refused in
+    let q : in_range a.p ≡ false = sym c.in_range.ensures ∙ not-true _ g.0 in
+    refused_by a.p x _ _ (rw g.1 at c.from_residual.ensures.1) (sym (number_spoilt a.p x q))
 
-pub returns : goal.returns
-returns c =
-    let a = c in
-    let p = a.args.p in
-    let x = sent a.args.sender a.args.e in
-    let q : in_range p ≡ false = sym c.in_range.ensures ∙ c.if-in_range.false in
-    let s = number_spoilt p x q in
-    let n : number p x ≡ 0 → ⊥ = (λ z. omega arith) in
-    c.refused-2.ensures ∙ sym (simp s at (refused_answer p x n))
+pub returns-in_err-refuse_if-2 : goal.returns-in_err-refuse_if-2
+unfolding is_known
+returns-in_err-refuse_if-2 c =
+    let a = c.args in
+    let x = sent a.sender a.e in
+    let g = c.in_err-refuse_if-2.ensures.refused in
+    let r = sym c.in_range.ensures ∙ not-false _ c.in_ok-refuse_if.ensures.passed in
+    let q : known_sender a.sender ≡ false = sym c.known.ensures ∙ not-true _ g.0 in
+    refused_by a.p x _ _ (rw g.1 at c.from_residual-in_err-refuse_if-2.ensures.1) (sym (number_unknown a.p x r q))

@@ -3,4 +3,4 @@ use Rattle.held.proofs.crossing_in.Goals as goal
 
 pub returns : goal.returns
 unfolding crossing_in
-returns c = simp (c.left_limit.ensures, c.phase_in.ensures, c.lamps_in.ensures, c.booms_in.ensures, c.track_in-4.ensures, c.track_in-3.ensures, c.track_in-2.ensures, c.track_in.ensures)
+returns c = simp (c.left_limit.ensures, c.phase_in.ensures, c.lamps_in.ensures, c.booms_in.ensures, c.tracks_in.ensures)

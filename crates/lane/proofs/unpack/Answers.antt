@@ -32,4 +32,4 @@ overflow_cast-result-7 c = let h = c.requires.out in search (h, rules)
 
 pub returns : goal.returns
 unfolding crossing_of
-returns c = simp (c.part_seven.ensures, c.part-6.ensures, c.part-5.ensures, c.part-4.ensures, c.part-3.ensures, c.part-2.ensures, c.part.ensures)
+returns c = simp (c.part-7.ensures, c.part-6.ensures, c.part-5.ensures, c.part-4.ensures, c.part-3.ensures, c.part-2.ensures, c.part.ensures)

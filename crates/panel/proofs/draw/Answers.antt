@@ -4,36 +4,36 @@ use borrow.Author.Tests.{eq-eqb, ne_eqb}
 use Rattle.machine.specs.Panel.{draw_number, drawn}
 use Rattle.panel.proofs.draw.Goals as goal
 
-pub show-requires : goal.show-requires
-show-requires c =
-    let ok = sym c.in_range.ensures ∙ c.if-in_range.true in
-    ((plant_reads _ ok).count, c.if-out-n.true)
-
-pub returns-then-out-n : goal.returns-then-out-n
+pub returns-then-not-in_range : goal.returns-then-not-in_range
 unfolding draw_number drawn
-returns-then-out-n c =
-    let ok = sym c.in_range.ensures ∙ c.if-in_range.true in
-    let who = sym c.known.ensures ∙ c.if-known.true in
-    let size = eq-eqb _ _ c.if-out-n.true in
-    record { number = rw (ok, who, size); bytes = c.show.ensures ∙ rw (ok, who, size) }
+returns-then-not-in_range c =
+    let ok = sym c.in_range.ensures ∙ c.if-not-in_range.true in
+    record { number = rw ok; bytes = rw ok }
 
-pub returns-then-known : goal.returns-then-known
+pub returns-then-not-known : goal.returns-then-not-known
 unfolding draw_number drawn
-returns-then-known c =
-    let ok = sym c.in_range.ensures ∙ c.if-in_range.true in
-    let who = sym c.known.ensures ∙ c.if-known.true in
-    let size = ne_eqb _ _ c.if-out-n.false in
+returns-then-not-known c =
+    let ok = sym c.in_range.ensures ∙ c.if-not-in_range.false in
+    let who = sym c.known.ensures ∙ c.if-not-known.true in
+    record { number = rw (ok, who); bytes = rw (ok, who) }
+
+pub returns-then-out-from : goal.returns-then-out-from
+unfolding draw_number drawn
+returns-then-out-from c =
+    let ok = sym c.in_range.ensures ∙ c.if-not-in_range.false in
+    let who = sym c.known.ensures ∙ c.if-not-known.false in
+    let size = rw c.from.ensures at (ne_eqb _ _ c.if-out-from.true) in
     record { number = rw (ok, who, size); bytes = rw (ok, who, size) }
 
-pub returns-then-in_range : goal.returns-then-in_range
-unfolding draw_number drawn
-returns-then-in_range c =
-    let ok = sym c.in_range.ensures ∙ c.if-in_range.true in
-    let who = sym c.known.ensures ∙ c.if-known.false in
-    record { number = rw (ok, who); bytes = rw (ok, who) }
+pub show-requires : goal.show-requires
+show-requires c =
+    let ok = sym c.in_range.ensures ∙ c.if-not-in_range.false in
+    ((plant_reads _ ok).count, rw c.from.ensures at c.if-out-from.false)
 
 pub returns : goal.returns
 unfolding draw_number drawn
 returns c =
-    let ok = sym c.in_range.ensures ∙ c.if-in_range.false in
-    record { number = rw ok; bytes = rw ok }
+    let ok = sym c.in_range.ensures ∙ c.if-not-in_range.false in
+    let who = sym c.known.ensures ∙ c.if-not-known.false in
+    let size = rw c.from.ensures at (eq-eqb _ _ c.if-out-from.false) in
+    record { number = rw (ok, who, size); bytes = c.show.ensures ∙ rw (ok, who, size) }

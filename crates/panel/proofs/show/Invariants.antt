@@ -1,4 +1,3 @@
-use Prim.Native.Nat.{◌≤◌, ◌-◌}
 use mathlib.Core.Path.{◌≡◌}
 use lib.ListN.{length}
 use lib.Seq.{sets}
@@ -7,7 +6,4 @@ use Rattle.panel.proofs.Rows.{row_at}
 use Rattle.panel.proofs.show.Given as goal
 
 abbrev pub invariant-loop-i : goal.invariant-loop-i
-invariant-loop-i l = (l.i ≤ l.n) × ((l.out ≡ sets l.initial.out 0 (concat_below l.i (row_at l.sender l.p))) × (length l.out ≡ length l.initial.out))
-
-abbrev pub decreases-loop-i : goal.decreases-loop-i
-decreases-loop-i l = l.n - l.i
+invariant-loop-i l = (l.out ≡ sets l.initial.out 0 (concat_below l.i (row_at l.sender l.p))) × (length l.out ≡ length l.initial.out)

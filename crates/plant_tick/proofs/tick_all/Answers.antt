@@ -18,7 +18,7 @@ use Rattle.plant_tick.proofs.tick_all.Goals as goal
 pub loop-i-init : goal.loop-i-init
 loop-i-init c =
     let h = plant_reads _ c.requires in
-    (h.count, search rules)
+    (rw c.from-n.ensures h.count, search rules)
 
 pub loop-i-preserved : goal.loop-i-preserved
 loop-i-preserved c =
@@ -31,7 +31,7 @@ loop-i-preserved c =
     let few : m.i < length l = omega arith in
     let r : get_or (put_first m.i (next_at a.args.site l) l) m.i unread ≡ get_or l m.i no_crossing =
     past_first (next_at a.args.site l) l unread m.i m.i (le_refl m.i) ∙ crossing_read l m.i few in
-    (w.0, (omega arith, (simp (add-one, t.value, w.1.1.0, r), (simp (add-one, t.value, w.1.1.0, w.1.1.1.0, r), omega (arith, t.written_bound)))))
+    (w.0, (simp (add-one, t.value, w.1.0, r), (simp (add-one, t.value, w.1.0, w.1.1.0, r), omega (arith, t.written_bound))))
 
 pub overflow_add-result : goal.overflow_add-result
 overflow_add-result c = let h = plant_reads _ c.requires in omega (arith, h.beat)
@@ -49,4 +49,4 @@ returns-clause-value c =
     let past : (i : ℕ) → site.n ≤ i → i < 8 → next_at site l i ≡ get_or l i no_crossing =
     (λ i m b. past_stays _ _ (h.past i b m) (zero_kind _ (h.entry_past i b m)) (g i)) in
     let none : (i : ℕ) → site.n ≤ i → i < 8 → written_off site l i ≡ 0 = (λ i m b. past_written (get_or site.entries i no_entry) _ (h.past i b m) (zero_kind _ (h.entry_past i b m))) in
-    simp (w.1.1.0, w.1.1.1.0, end, first_tab (next_at site l) l no_crossing site.n 8 eight h.count past, ← sum_past (written_off site l) 8 site.n h.count none)
+    simp (w.1.0, w.1.1.0, end, first_tab (next_at site l) l no_crossing site.n 8 eight h.count past, ← sum_past (written_off site l) 8 site.n h.count none)

@@ -1,45 +1,57 @@
-use mathlib.Core.Path.{sym, ◌∙◌, ap}
+use mathlib.Core.Path.{◌≡◌, sym, ◌∙◌, ap}
+use mathlib.Core.Bool.{true, false}
+use borrow.Author.Tests.{not-true, not-false, eqb-true, eqb-false}
+use Rattle.machine.specs.Range.{in_range}
+use Rattle.machine.specs.Rights.{known_sender}
 use Rattle.machine.proofs.Ranges.{plant_reads}
 use Rattle.machine.proofs.Taken.{step_site}
 use Rattle.machine.proofs.Foretold.{spoilt_preview, unknown_preview, wrong_frame}
-use Rattle.preview.proofs.Cases.{returns_taken, returns_refused}
+use Rattle.preview.proofs.Cases.{passed_on, by_taken, by_refused}
 use Rattle.preview.proofs.preview.Goals as goal
+
+pub returns-in_err-refuse_if : goal.returns-in_err-refuse_if
+returns-in_err-refuse_if c =
+    let a = c.args in
+    let g = c.in_err-refuse_if.ensures.refused in
+    let r : in_range a.p ≡ false = sym c.in_range.ensures ∙ not-true _ g.0 in
+    let h = passed_on a.p a.sender a.e a.out.now _ _ (rw g.1 at c.from_residual.ensures.1) (spoilt_preview a.p a.sender a.e a.out.now r) in
+    record { number = h.0; written = h.1.0; bytes = h.1.1 }
+
+pub returns-in_err-refuse_if-2 : goal.returns-in_err-refuse_if-2
+returns-in_err-refuse_if-2 c =
+    let a = c.args in
+    let g = c.in_err-refuse_if-2.ensures.refused in
+    let r : in_range a.p ≡ true = sym c.in_range.ensures ∙ not-false _ c.in_ok-refuse_if.ensures.passed in
+    let s : known_sender a.sender ≡ false = sym c.known.ensures ∙ not-true _ g.0 in
+    let h = passed_on a.p a.sender a.e a.out.now _ _ (rw g.1 at c.from_residual-in_err-refuse_if-2.ensures.1) (unknown_preview a.p a.sender a.e a.out.now r s) in
+    record { number = h.0; written = h.1.0; bytes = h.1.1 }
+
+pub returns-in_err-refuse_if-3 : goal.returns-in_err-refuse_if-3
+returns-in_err-refuse_if-3 c =
+    let a = c.args in
+    let g = c.in_err-refuse_if-3.ensures.refused in
+    let r : in_range a.p ≡ true = sym c.in_range.ensures ∙ not-false _ c.in_ok-refuse_if.ensures.passed in
+    let s : known_sender a.sender ≡ true = sym c.known.ensures ∙ not-false _ c.in_ok-refuse_if-2.ensures.passed in
+    let h = passed_on a.p a.sender a.e a.out.now _ _ (rw g.1 at c.from_residual-in_err-refuse_if-3.ensures.1) (wrong_frame a.p a.sender a.e a.out.now r s (eqb-false _ _ (rw c.from-n.ensures at (not-true _ g.0)))) in
+    record { number = h.0; written = h.1.0; bytes = h.1.1 }
+
+pub returns-in_err-t : goal.returns-in_err-t
+returns-in_err-t c =
+    let a = c.args in
+    let f = eqb-true _ _ (rw c.from-n.ensures at (not-false _ c.in_ok-refuse_if-3.ensures.passed)) in
+    let h = passed_on a.p a.sender a.e a.out.now _ _ c.from_residual-in_err-t.ensures.1 (by_refused a.p a.sender a.e a.out.now f _ c.in_err-t.ensures) in
+    record { number = h.0; written = h.1.0; bytes = h.1.1 }
 
 pub show-requires : goal.show-requires
 show-requires c =
-    let ok = sym c.in_range.ensures ∙ c.if-in_range.true in
-    let n = ap (λ x. x.plant.site.n) c.answer-a.ensures ∙ ap (λ x. x.n) (step_site _ _) in
-    (rw n (plant_reads _ ok).count, rw n c.if-out-n.true)
-
-pub returns-then-a-eq0 : goal.returns-then-a-eq0
-returns-then-a-eq0 c =
-    let r = c.answer-a.ensures in
-    let q = sym (ap (λ x. x.number) r) ∙ c.if-a-eq0.true in
-    let h = returns_taken c.args.p c.args.sender c.args.e c.args.out.now c.if-out-n.true q in
-    record { number = rw r h.0; written = rw r h.1.0; bytes = rw (c.show.ensures, r) h.1.1 }
-
-pub returns-then-out-n : goal.returns-then-out-n
-returns-then-out-n c =
-    let r = c.answer-a.ensures in
-    let h = returns_refused c.args.p c.args.sender c.args.e c.args.out.now c.if-out-n.true (λ q. c.if-a-eq0.false (ap (λ x. x.number) r ∙ q)) in
-    record { number = rw (c.refused.ensures, r) h.0; written = rw c.refused.ensures h.1.0; bytes = h.1.1 }
-
-pub returns-then-known : goal.returns-then-known
-returns-then-known c =
-    let ok = sym c.in_range.ensures ∙ c.if-in_range.true in
-    let who = sym c.known.ensures ∙ c.if-known.true in
-    let h = wrong_frame c.args.p c.args.sender c.args.e c.args.out.now ok who c.if-out-n.false in
-    record { number = rw c.refused-then-known.ensures h.0; written = rw c.refused-then-known.ensures h.1.0; bytes = h.1.1 }
-
-pub returns-then-in_range : goal.returns-then-in_range
-returns-then-in_range c =
-    let ok = sym c.in_range.ensures ∙ c.if-in_range.true in
-    let who = sym c.known.ensures ∙ c.if-known.false in
-    let h = unknown_preview c.args.p c.args.sender c.args.e c.args.out.now ok who in
-    record { number = rw c.refused-then-in_range.ensures h.0; written = rw c.refused-then-in_range.ensures h.1.0; bytes = h.1.1 }
+    let r : in_range c.args.p ≡ true = sym c.in_range.ensures ∙ not-false _ c.in_ok-refuse_if.ensures.passed in
+    let n = ap (λ x. x.plant.site.n) c.in_ok-t.ensures ∙ ap (λ x. x.n) (step_site _ _) in
+    let f = eqb-true _ _ (rw c.from-n.ensures at (not-false _ c.in_ok-refuse_if-3.ensures.passed)) in
+    (rw n (plant_reads _ r).count, rw n f)
 
 pub returns : goal.returns
 returns c =
-    let ok = sym c.in_range.ensures ∙ c.if-in_range.false in
-    let h = spoilt_preview c.args.p c.args.sender c.args.e c.args.out.now ok in
-    record { number = rw c.refused-2.ensures h.0; written = rw c.refused-2.ensures h.1.0; bytes = h.1.1 }
+    let a = c.args in
+    let f = eqb-true _ _ (rw c.from-n.ensures at (not-false _ c.in_ok-refuse_if-3.ensures.passed)) in
+    let h = by_taken a.p a.sender a.e a.out.now f _ c.in_ok-t.ensures in
+    record { number = h.0; written = h.1.0; bytes = c.show.ensures ∙ h.1.1 }

@@ -9,12 +9,12 @@ unfolding out_after
 returns-then-normal c =
     simp c.if-normal.true
 
-pub returns-then-k-lowered : goal.returns-then-k-lowered
+pub returns-then-k-saturating_sub : goal.returns-then-k-saturating_sub
 unfolding out_after
-returns-then-k-lowered c =
+returns-then-k-saturating_sub c =
     let a = c.args in
-    let w = c.lowered.ensures in
-    let t = c.if-k-lowered.true in
+    let w = c.saturating_sub.ensures in
+    let t = c.if-k-saturating_sub.true in
     let h : a.out + a.k < 1080 = omega (arith, w, t) in
     simp (lt-ltb _ _ h, c.if-normal.false)
 
@@ -22,7 +22,7 @@ pub returns : goal.returns
 unfolding out_after
 returns c =
     let a = c.args in
-    let w = c.lowered.ensures in
-    let t = c.if-k-lowered.false in
+    let w = c.saturating_sub.ensures in
+    let t = c.if-k-saturating_sub.false in
     let h : 1080 ≤ a.out + a.k = omega (arith, w, t) in
     simp (le-ltb _ _ h, c.if-normal.false)

@@ -10,4 +10,4 @@ returns-then-opens-clause-value c =
 pub returns-clause-value : goal.returns-clause-value
 unfolding span crossing_of
 returns-clause-value c =
-    simp (c.smaller-2.ensures.value, c.sheet_left.ensures.value, c.smaller-counts.ensures.value, c.ticks_left-3.ensures, c.smaller.ensures.value, c.ticks_left-2.ensures, c.ticks_left.ensures, ← c.opens.ensures, c.if-opens.false)
+    simp (c.min-3.ensures, c.sheet_left.ensures.value, c.min-2.ensures, c.ticks_left-3.ensures, c.min.ensures, c.ticks_left-2.ensures, c.ticks_left.ensures, ← c.opens.ensures, c.if-opens.false)

@@ -5,4 +5,4 @@ use Rattle.slot.proofs.current.Goals as goal
 pub returns : goal.returns
 unfolding current
 returns c =
-    c.advance.ensures ∙ rw c.lowered.ensures
+    c.advance.ensures ∙ rw c.saturating_sub.ensures

@@ -19,4 +19,4 @@ returns c =
     let w = c.loop-i.invariant in
     let end : c.loop-i.i ≡ 8 = omega arith in
     let eight : length l ≡ 8 = search (c.well_formed, rules) in
-    rw end at w.1 ∙ first_tab f l no_crossing 8 8 eight (le_refl 8) (λ i b k. absurd (omega arith))
+    rw end at w ∙ first_tab f l no_crossing 8 8 eight (le_refl 8) (λ i b k. absurd (omega arith))

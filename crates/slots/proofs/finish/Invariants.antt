@@ -1,4 +1,3 @@
-use Prim.Native.Nat.{◌≤◌, ◌-◌}
 use mathlib.Core.Path.{◌≡◌}
 use Rattle.machine.proofs.First.{put_first}
 use Rattle.slot.specs.Slots.{current}
@@ -6,7 +5,4 @@ use Rattle.slots.specs.Eight.{slot_at, entry_at}
 use Rattle.slots.proofs.finish.Given as goal
 
 abbrev pub invariant-loop-i : goal.invariant-loop-i
-invariant-loop-i l = (l.i ≤ 8) × (l.next ≡ put_first l.i (λ j. current (entry_at l.site j) l.now (slot_at l.slots j)) l.initial.next)
-
-abbrev pub decreases-loop-i : goal.decreases-loop-i
-decreases-loop-i l = 8 - l.i
+invariant-loop-i l = l.next ≡ put_first l.i (λ j. current (entry_at l.site j) l.now (slot_at l.slots j)) l.initial.next

@@ -1,9 +1,9 @@
-use mathlib.Core.Path.{◌∙◌}
-use Rattle.stretch.proofs.Turns.{other_way}
+use mathlib.Core.Path.{sym, ◌∙◌}
+use Rattle.stretch.proofs.Ways.{both_ways}
 use Rattle.stretch.proofs.alike.Goals as goal
 
 pub returns-then-covered : goal.returns-then-covered
-returns-then-covered c = c.covered-then-covered.ensures ∙ other_way _ _ c.covered.ensures c.if-covered.true
+returns-then-covered c = c.covered-then-covered.ensures ∙ sym (rw (sym c.covered.ensures ∙ c.if-covered.true) at (both_ways c.args.a.now c.args.b.now))
 
-pub returns : goal.returns
-returns c = other_way _ _ c.covered.ensures c.if-covered.false
+pub returns-else-covered : goal.returns-else-covered
+returns-else-covered c = c.if-covered.false ∙ sym (rw (sym c.covered.ensures ∙ c.if-covered.false) at (both_ways c.args.a.now c.args.b.now))

@@ -1,26 +1,31 @@
 use Rattle.verdict.specs.Cases.{state_refusal}
-use Rattle.verdict.proofs.Table.{operator_hold}
-use borrow.Author.Tests.{ne_eqb}
+use Rattle.verdict.proofs.Table.{no_state}
 use Rattle.verdict.proofs.judge_state.Goals as goal
+use Rattle.refusal.proofs.Numbers.{by_refusal}
 
-pub returns-then-e-eq5 : goal.returns-then-e-eq5
+pub returns-in-Route : goal.returns-in-Route
 unfolding state_refusal
-returns-then-e-eq5 c = simp (c.if-e-eq5.true, c.refuse_if.ensures, c.dependent.ensures)
+returns-in-Route g c =
+    let r = by_refusal _ _ _ c.refuse_if.ensures.passed c.refuse_if.ensures.refused in
+    rw c.in-Route.is (rw (c.dependent.ensures, c.from-t.ensures) at r)
 
-pub returns-then-e-eq2 : goal.returns-then-e-eq2
+pub returns-in-Passage : goal.returns-in-Passage
 unfolding state_refusal
-returns-then-e-eq2 c = simp (c.if-e-eq2.true, c.refuse_if-then-e-eq2.ensures, c.trains.ensures)
+returns-in-Passage g c =
+    let r = by_refusal _ _ _ c.refuse_if-in-Passage.ensures.passed c.refuse_if-in-Passage.ensures.refused in
+    rw c.in-Passage.is (rw (c.trains.ensures, c.from-t.ensures) at r)
 
-pub returns-then-e-eq4 : goal.returns-then-e-eq4
-returns-then-e-eq4 c =
-    let before = c in
-    let a = before.args in
-    rw (operator_hold a.s a.c a.e before.if-e-eq4.true) (rw (← c.held_by_train.ensures) c.refuse_if-then-e-eq4.ensures)
-
-pub returns-then-e-eq7 : goal.returns-then-e-eq7
+pub returns-in-OperatorHold : goal.returns-in-OperatorHold
 unfolding state_refusal
-returns-then-e-eq7 c = simp (c.if-e-eq7.true, c.refuse_if-then-e-eq7.ensures, c.blocked.ensures)
+returns-in-OperatorHold g c =
+    let r = by_refusal _ _ _ c.refuse_if-in-OperatorHold.ensures.passed c.refuse_if-in-OperatorHold.ensures.refused in
+    rw c.in-OperatorHold.is (rw c.held_by_train.ensures at r)
 
-pub returns : goal.returns
+pub returns-in-TimeRelease : goal.returns-in-TimeRelease
 unfolding state_refusal
-returns c = simp (ne_eqb _ _ c.if-e-eq7.false, ne_eqb _ _ c.if-e-eq4.false, ne_eqb _ _ c.if-e-eq2.false, ne_eqb _ _ c.if-e-eq5.false)
+returns-in-TimeRelease g c =
+    let r = by_refusal _ _ _ c.refuse_if-in-TimeRelease.ensures.passed c.refuse_if-in-TimeRelease.ensures.refused in
+    rw c.in-TimeRelease.is (rw c.blocked.ensures at r)
+
+pub returns-in_default : goal.returns-in_default
+returns-in_default g c = no_state _ _ _ c.args.e c.in_default.not-Route c.in_default.not-Passage c.in_default.not-OperatorHold c.in_default.not-TimeRelease

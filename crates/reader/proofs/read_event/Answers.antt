@@ -1,6 +1,0 @@
-use Rattle.machine.specs.Sheet.{sheet_event}
-use Rattle.reader.proofs.read_event.Goals as goal
-
-pub returns : goal.returns
-unfolding sheet_event
-returns c = rw (← c.requires.0.0)
