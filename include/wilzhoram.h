@@ -291,11 +291,11 @@ wilzhoram_distance wilzhoram_board_distance(uint16_t speed, uint16_t retardation
 #define WILZHORAM_STACK_VERSION        64
 #define WILZHORAM_STACK_READ           1408
 #define WILZHORAM_STACK_WRITE          320
-#define WILZHORAM_STACK_EVENT          5408
-#define WILZHORAM_STACK_DRAW           1280
-#define WILZHORAM_STACK_PREVIEW        4544
-#define WILZHORAM_STACK_RUN            4032
-#define WILZHORAM_STACK_AGREE          3264
+#define WILZHORAM_STACK_EVENT          5248
+#define WILZHORAM_STACK_DRAW           1344
+#define WILZHORAM_STACK_PREVIEW        4352
+#define WILZHORAM_STACK_RUN            3520
+#define WILZHORAM_STACK_AGREE          3328
 #define WILZHORAM_STACK_BOARD_DISTANCE 64
 
 #ifdef __cplusplus

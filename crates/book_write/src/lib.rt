@@ -37,7 +37,11 @@ fn setting_in(n: u8, i: usize, x: Entry) -> bool
 fn settings_in(s: Site) -> bool
     ensures { result ≡ all_below 8 (setting_in s) }
 {
-    (0..8).all(|i| setting_in(s.n, i, s.entries[i]))
+    let mut fine = true;
+    for i in 0..8 {
+        fine &= setting_in(s.n, i, s.entries[i]);
+    }
+    fine
 }
 
 // What refuses settings and an output: number 2, 3, 14.

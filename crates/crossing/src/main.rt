@@ -1,6 +1,8 @@
 // Reads site.bin and sheet.bin, runs the sheet from the fresh plant, and prints the counts and the panel.
 #![tactic(auto)]
 
+ghost use Rattle.std.specs.Prelude.{◌≤◌, length};
+
 use refusal::Refusal;
 use report::Outcome;
 use std::io::Read;
@@ -8,7 +10,9 @@ use std::rt::Files;
 use std::{fs, io};
 
 // The bytes of a file, as many as buf has room for; none where it cannot be opened.
-fn load<'a>(rt: &impl Files, path: &str, buf: &'a mut [u8]) -> &'a [u8] {
+fn load<'a>(rt: &impl Files, path: &str, buf: &'a mut [u8]) -> &'a [u8]
+    ensures { length result.now ≤ length buf.old }
+{
     match fs::open(rt, path) {
         Ok(mut file) => read_full(&mut file, buf),
         Err(_) => &[],
@@ -16,7 +20,9 @@ fn load<'a>(rt: &impl Files, path: &str, buf: &'a mut [u8]) -> &'a [u8] {
 }
 
 // Reads until buf is full, the input ends or a read fails: the bytes that were read.
-fn read_full<'a>(from: &mut impl Read, buf: &'a mut [u8]) -> &'a [u8] {
+fn read_full<'a>(from: &mut impl Read, buf: &'a mut [u8]) -> &'a [u8]
+    ensures { length result.now ≤ length buf.old }
+{
     let mut done = 0;
     while done < buf.len() {
         match from.read(&mut buf[done..]) {

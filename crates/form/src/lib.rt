@@ -4,7 +4,7 @@
 
 mod plain;
 
-ghost use Rattle.std.specs.Prelude.{◌≡◌, ◌≤◌, ◌<◌, List, ℕ, pred, set};
+ghost use Rattle.std.specs.Prelude.{cond, ◌≡◌, ◌≤◌, ◌<◌, List, ℕ, pred, set};
 ghost use Rattle.machine.specs.declared.Crossing.{Crossing};
 ghost use Rattle.form.specs.declared.Field.{Field};
 ghost use Rattle.machine.specs.Common.{tab};
@@ -69,6 +69,11 @@ pub trait Form: Copy {
     fn set_number(self, which: Number, v: u64) -> Self
         requires { v ≤ most which }
         ensures { crossing result ≡ with_number (crossing self) which v };
+
+    // With v for a number where the test holds, otherwise as it is: one crossing, and no two that meet again.
+    fn set_number_if(self, test: bool, which: Number, v: u64) -> Self
+        requires { v ≤ most which }
+        ensures { crossing result ≡ with_number (crossing self) which (cond test v (number_in (crossing self) which)) };
 
     // With a running count lowered by 1.
     fn lower(self, which: Number) -> Self

@@ -1,5 +1,5 @@
 // The crossing of the plant as a form.
-ghost use Rattle.std.specs.Prelude.{◌≡◌, get_or, ltb};
+ghost use Rattle.std.specs.Prelude.{◌≡◌, ◌≤◌, ◌<◌, get_or, ltb, set};
 ghost use Rattle.machine.specs.Common.{any_below};
 ghost use Rattle.machine.specs.Plant.{is_on};
 ghost use Rattle.form.specs.Plain.{byte_limit, bytes_roomy, bytes_sized};
@@ -21,6 +21,25 @@ fn any_on(a: [u8; 4]) -> bool
     (a[0] == 1) | (a[1] == 1) | (a[2] == 1) | (a[3] == 1)
 }
 
+// What stands at a place. The array alone is copied: with the place inside the record, the compiler would lay all of it onto the stack.
+fn found<const N: usize>(a: [u8; N], at: usize) -> u64
+    requires { at < N }
+    ensures value { result ≡ get_or a.entry at 0 }
+    ensures upper_bound { result ≤ 255 }
+{
+    u64::from(a[at])
+}
+
+// The array with a byte at a place.
+fn stored<const N: usize>(a: [u8; N], at: usize, byte: u8) -> [u8; N]
+    requires { at < N }
+    ensures { result ≡ set a.entry at byte }
+{
+    let mut b = a;
+    b[at] = byte;
+    b
+}
+
 impl Form for Crossing {
     ghost crossing = { λ c. c };
 
@@ -33,13 +52,13 @@ impl Form for Crossing {
     fn get(self, field: Field, place: u8) -> u64 {
         let at = usize::from(place);
         match field {
-            Field::Calling => u64::from(self.calling[at]),
-            Field::Waiting => u64::from(self.waiting[at]),
-            Field::Route => u64::from(self.route[at]),
-            Field::Occupied => u64::from(self.occupied[at]),
-            Field::Unsure => u64::from(self.unsure[at]),
-            Field::Booms => u64::from(self.booms[at]),
-            Field::Lamps => u64::from(self.lamps[at]),
+            Field::Calling => found(self.calling, at),
+            Field::Waiting => found(self.waiting, at),
+            Field::Route => found(self.route, at),
+            Field::Occupied => found(self.occupied, at),
+            Field::Unsure => found(self.unsure, at),
+            Field::Booms => found(self.booms, at),
+            Field::Lamps => found(self.lamps, at),
         }
     }
 
@@ -48,13 +67,13 @@ impl Form for Crossing {
         let byte = v as u8;
         let mut d = self;
         match field {
-            Field::Calling => d.calling[at] = byte,
-            Field::Waiting => d.waiting[at] = byte,
-            Field::Route => d.route[at] = byte,
-            Field::Occupied => d.occupied[at] = byte,
-            Field::Unsure => d.unsure[at] = byte,
-            Field::Booms => d.booms[at] = byte,
-            Field::Lamps => d.lamps[at] = byte,
+            Field::Calling => d.calling = stored(self.calling, at, byte),
+            Field::Waiting => d.waiting = stored(self.waiting, at, byte),
+            Field::Route => d.route = stored(self.route, at, byte),
+            Field::Occupied => d.occupied = stored(self.occupied, at, byte),
+            Field::Unsure => d.unsure = stored(self.unsure, at, byte),
+            Field::Booms => d.booms = stored(self.booms, at, byte),
+            Field::Lamps => d.lamps = stored(self.lamps, at, byte),
         }
         d
     }
@@ -113,6 +132,20 @@ impl Form for Crossing {
             Number::Timer => d.timer = v as u16,
             Number::Left => d.left = v as u16,
             Number::Out => d.out = v as u16,
+        }
+        d
+    }
+
+    fn set_number_if(self, test: bool, which: Number, v: u64) -> Self {
+        let mut d = self;
+        match which {
+            Number::Kiosk => d.kiosk = if test { v as u8 } else { self.kiosk },
+            Number::Operator => d.operator = if test { v as u8 } else { self.operator },
+            Number::Countdown => d.countdown = if test { v as u16 } else { self.countdown },
+            Number::Phase => d.phase = if test { v as u8 } else { self.phase },
+            Number::Timer => d.timer = if test { v as u16 } else { self.timer },
+            Number::Left => d.left = if test { v as u16 } else { self.left },
+            Number::Out => d.out = if test { v as u16 } else { self.out },
         }
         d
     }

@@ -98,6 +98,20 @@ impl Form for Lane {
         d
     }
 
+    fn set_number_if(self, test: bool, which: Number, v: u64) -> Self {
+        let mut d = self;
+        match which {
+            Number::Kiosk => d.kiosk = if test { v } else { self.kiosk },
+            Number::Operator => d.operator = if test { v } else { self.operator },
+            Number::Countdown => d.countdown = if test { v } else { self.countdown },
+            Number::Phase => d.phase = if test { v } else { self.phase },
+            Number::Timer => d.timer = if test { v } else { self.timer },
+            Number::Left => d.left = if test { v } else { self.left },
+            Number::Out => d.out = if test { v } else { self.out },
+        }
+        d
+    }
+
     fn lower(self, which: Number) -> Self {
         let mut d = self;
         match which {

@@ -47,10 +47,10 @@ pub fn entry_in(s: Entry) -> bool
     ensures { result ≡ entry_in s }
 {
     (1..=6).contains(&s.kind)
-        && tracks_in(s.tracks, s.mask)
-        && pre_in(s.kind, s.pre)
-        && gap_in(s.kind, s.gap)
-        && s.pause <= 540
+        & tracks_in(s.tracks, s.mask)
+        & pre_in(s.kind, s.pre)
+        & gap_in(s.kind, s.gap)
+        & (s.pause <= 540)
 }
 
 // An entry past the last crossing: all zero.

@@ -1,6 +1,6 @@
 // Settling: once after an event of the crossing's own or a tick, by the phase on entry (document 01, "Events"), in every form of a
-// crossing. In parts, next_phase, enter and count_out: together they are too long for the compiler to put into a tick, which mostly
-// takes the first and the last.
+// crossing. In parts, next_phase, enter_next and count_out: together they are too long for the compiler to put into a tick by itself, which
+// mostly takes the first and the last; `inline(always)` has it do so.
 #![tactic(auto)]
 
 ghost use Rattle.std.specs.Prelude.{◌≡◌, ◌≤◌};
@@ -50,23 +50,30 @@ pub fn next_phase<F: Form>(s: Entry, f: F) -> Option<u8>
     )
 }
 
-// The crossing in the next phase. The timer is F where a warning begins. Ticks left to motorists are M where a closure ends, none where
-// a warning is given up (document 02, T-06). Where the phase stays, so do both.
+// The crossing in the phase that it enters, if any. The timer is F where a warning begins. Ticks left to motorists are M where a closure
+// ends, none where a warning is given up (document 02, T-06). Where the phase stays, so do both. No two crossings meet here: the
+// compiler would copy each to the stack and back (docs/BENCHMARK.md).
 #[tactic(auto, unfolding(machine::specs::Settling::timer_settled, machine::specs::Settling::left_settled))]
-pub fn enter<F: Form>(s: Entry, next: u8, f: F) -> F
-    ensures { F.crossing result ≡ entered s next (F.crossing f) }
+#[inline(always)]
+fn enter_next<F: Form>(s: Entry, next: Option<u8>, f: F) -> F
+    ensures { F.crossing result ≡ entered s (moved (F.crossing f).phase next) (F.crossing f) }
 {
-    let next = u64::from(next);
     let phase = f.number(Number::Phase);
-    if next == phase {
-        return f;
-    }
+    let moves = next.is_some_and(|next| u64::from(next) != phase);
+    let next = u64::from(next.unwrap_or(0));
     let timer = if next == 1 { s.pre } else { 0 };
     let ends = (next == 0) & (phase != 1);
     let left = if ends { s.pause } else { 0 };
-    f.set_number(Number::Phase, next)
-        .set_number(Number::Timer, u64::from(timer))
-        .set_number(Number::Left, u64::from(left))
+    f.set_number_if(moves, Number::Phase, next)
+        .set_number_if(moves, Number::Timer, u64::from(timer))
+        .set_number_if(moves, Number::Left, u64::from(left))
+}
+
+// The crossing in the next phase.
+pub fn enter<F: Form>(s: Entry, next: u8, f: F) -> F
+    ensures { F.crossing result ≡ entered s next (F.crossing f) }
+{
+    enter_next(s, Some(next), f)
 }
 
 // Ticks out of normal after settling.
@@ -91,12 +98,11 @@ pub fn count_out<F: Form>(s: Entry, tick: bool, f: F) -> F
 }
 
 // A crossing after it settles: the three parts in turn.
-#[tactic(auto, unfolding(machine::specs::Settling::settle, machine::specs::Settling::timer_settled, machine::specs::Settling::left_settled, machine::specs::Plant::normal))]
+#[tactic(auto, using(crate::proofs::Parts::all_parts))]
+#[inline(always)]
 pub fn settle<F: Form>(s: Entry, tick: bool, f: F) -> F
     ensures { F.crossing result ≡ settle s (bit tick 1) (F.crossing f) }
 {
-    match next_phase(s, f) {
-        Some(next) => count_out(s, tick, enter(s, next, f)),
-        None => count_out(s, tick, f),
-    }
+    let next = next_phase(s, f);
+    count_out(s, tick, enter_next(s, next, f))
 }

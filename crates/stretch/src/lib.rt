@@ -9,7 +9,11 @@ ghost use Rattle.stretch.specs.Keys.{alike};
 fn often(a: &[u32], key: u32) -> usize
     ensures { result ≡ count_by (λ other. key == other) a.now }
 {
-    a.iter().filter(|other| key == **other).count()
+    let mut count = 0;
+    for other in a {
+        count += usize::from(key == *other);
+    }
+    count
 }
 
 // Each key of the first stands in both as often.

@@ -20,16 +20,12 @@ pub struct Ticked<F> {
 fn run_timer<F: Form>(s: Entry, f: F) -> F
     ensures { F.crossing result ≡ timed s (F.crossing f) }
 {
-    let d = f.lower(Number::Timer);
-    if f.number(Number::Timer) != 1 {
-        return d;
-    }
-    if (f.number(Number::Phase) == 1) & kind::four_booms(s.kind) {
-        return d
-            .set_number(Number::Phase, 2)
-            .set_number(Number::Timer, u64::from(s.gap));
-    }
-    d.set_number(Number::Phase, 3)
+    let ends = f.number(Number::Timer) == 1;
+    let halfway = (f.number(Number::Phase) == 1) & kind::four_booms(s.kind);
+    let next = if halfway { 2 } else { 3 };
+    f.lower(Number::Timer)
+        .set_number_if(ends, Number::Phase, next)
+        .set_number_if(ends & halfway, Number::Timer, u64::from(s.gap))
 }
 
 // The countdown, then the timer, then the ticks left to motorists (document 02, T-06), by 1; a release that completes clears the

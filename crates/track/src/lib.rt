@@ -1,7 +1,7 @@
 // What one track holds (document 01, "What the plant holds").
 #![tactic(auto)]
 
-ghost use Rattle.std.specs.Prelude.{◌≡◌, ◌<◌};
+ghost use Rattle.std.specs.Prelude.{◌≡◌, ◌≤◌, ◌<◌};
 ghost use Rattle.machine.specs.Plant.{trains, is_full};
 ghost use Rattle.machine.specs.Range.{track_in, track_zero};
 
@@ -22,7 +22,8 @@ pub fn track_zero(c: Crossing, t: usize) -> bool
 
 // The trains of track t; none on a track past the fourth.
 pub fn trains<F: Form>(f: F, t: usize) -> u16
-    ensures { result ≡ trains (F.crossing f) t }
+    ensures value { result ≡ trains (F.crossing f) t }
+    ensures upper_bound { result ≤ 510 }
 {
     if t < 4 {
         let t = t as u8;

@@ -39,6 +39,7 @@ fn blocked<F: Form>(f: F) -> bool
 }
 
 // What the event's crossing holds, by what the event is: 13, then 10 to 12.
+#[inline(always)]
 fn judge_state<F: Form>(s: Entry, f: F, action: Action, e: Event) -> Result<(), Refusal>
     ensures { number_of result ≡ state_refusal s (F.crossing f) (of_action action e) }
 {

@@ -13,7 +13,7 @@ pub returns-in-Passage : goal.returns-in-Passage
 unfolding state_refusal
 returns-in-Passage g c =
     let r = by_refusal _ _ _ c.refuse_if-in-Passage.ensures.passed c.refuse_if-in-Passage.ensures.refused in
-    rw c.in-Passage.is (rw (c.trains.ensures, c.from-t.ensures) at r)
+    rw c.in-Passage.is (rw (c.trains.ensures.value, c.from-t.ensures) at r)
 
 pub returns-in-OperatorHold : goal.returns-in-OperatorHold
 unfolding state_refusal
